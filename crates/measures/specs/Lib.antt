@@ -1,0 +1,4 @@
+pub mod MinutesMeaning
+pub mod ChainMeaning
+pub mod WeakestMeaning
+pub mod Texts

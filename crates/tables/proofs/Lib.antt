@@ -1,0 +1,5 @@
+pub mod Orders
+pub mod Searching
+pub mod Held
+pub mod Walking
+pub mod Seniors

@@ -1,0 +1,12 @@
+pub mod Orders
+pub mod Best
+pub mod Finished
+pub mod Members
+pub mod Listings
+pub mod SortedTables
+pub mod Roots
+pub mod Mirror
+pub mod Searching
+pub mod Facing
+pub mod Growing
+pub mod Guarantees

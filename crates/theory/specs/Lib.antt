@@ -1,0 +1,9 @@
+pub mod Measures
+pub mod Chains
+pub mod Tables
+pub mod Order
+pub mod Mirror
+pub mod Searches
+pub mod Rounds
+pub mod Refusals
+pub mod Books
