@@ -3,21 +3,10 @@ ghost use mathlib.Core.Path.{_≡_};
 ghost use Prim.Native.Nat.{_+_, _≤_, _<_};
 ghost use lib.ListN.{length, take, drop};
 ghost use lib.Dec.{ltb};
-ghost use Rattle.theory.specs.Order.{key as pair-key, key-of};
+ghost use Rattle.theory.specs.Order.{key-of};
 ghost use Rattle.merging.specs.Merging.{Mergeable, Merged};
+use tables::key;
 use theory::Entry;
-
-/// The key of the ordered pair `from`, `to`: the place of an entry in the order of a table.
-fn key(from: u16, to: u16) -> u64
-    ensures { λ r. ⌜ r ≡ pair-key from to ⌝ }
-{
-    let (from, to) = (u64::from(from), u64::from(to));
-    if to < from {
-        from * 131_072 + to
-    } else {
-        to * 131_072 + 65_536 + from
-    }
-}
 
 /// Whether `one` stands after `other` in the order of a table.
 fn stands_after<V>(one: &Entry<V>, other: &Entry<V>) -> bool

@@ -1,13 +1,13 @@
 -- Lemmas on lists whose places from some place on are made blank.
 
 use mathlib.Core.Path.{_≡_, sym, ap, subst, _∙_}
-use mathlib.Core.List.{List, [], _++_, append-nil}
+use mathlib.Core.List.{List, [], _++_, append-nil, append-assoc}
 use Prim.Native.Nat.{ℕ, _+_, _-_, _≤_, _<_, min}
 use native.Mathlib.Omega.{arith}
 use lib.ListN.{length, take, drop, set, replicate, length-take, length-drop, length-append, length-replicate}
 use lib.Seq.{paste}
 use mathlib.Core.Logic.{⊎-elim}
-use Rattle.std.proofs.shelf.Lists.{take-all, drop-all, take-at, drop-at, length-take-le, length-set, drop-set-lt, drop-drop, drop-replicate, set-past}
+use Rattle.std.proofs.shelf.Lists.{take-all, drop-all, take-at, drop-at, length-take-le, length-set, drop-set-lt, drop-drop, drop-replicate, set-past, take-take, take-append-le, replicate-append-replicate}
 use Rattle.std.proofs.shelf.Tests.{cases-lt}
 use Rattle.std.proofs.shelf.Edits.{paste-none, fill-from-more}
 use Rattle.strips.specs.Strips.{wiped, Held}
@@ -81,3 +81,25 @@ held-push cells count x b lt h =
     let n : length cells - count - 1 ≡ length (set cells count x) - (count + 1) = simp length-set (omega arith) in
     let below : count < count + 1 = omega arith in
     (simp length-set (omega arith), drop-set-lt (count + 1) cells count x below ∙ sym (drop-drop 1 count cells) ∙ ap (drop 1) (h .1) ∙ more ∙ ap (λ j. replicate j b) n)
+
+-- the front made blank from a place on, before a rest that is blank already: every place from there on is blank
+pub front-wiped :
+    {T : Type 0} (cells front : List T) (from to k : ℕ) (b : T) → k ≡ to → from ≤ to → front ≡ wiped (take k cells) from b → Held b cells to → front ++ drop k cells ≡ wiped cells from b
+front-wiped cells front from to k b e le is held =
+    let within : to ≤ length cells = held .0 in
+    let long : length (take k cells) - from ≡ to - from = let h = length-take k cells in omega arith in
+    let all : (to - from) + (length cells - to) ≡ length cells - from = omega arith in
+    ap (λ xs. xs ++ drop k cells) is
+    ∙ ap (λ n. (take from (take k cells) ++ replicate n b) ++ drop k cells) long
+    ∙ ap (λ xs. (xs ++ replicate (to - from) b) ++ drop k cells) (take-take from k cells (omega arith))
+    ∙ append-assoc (take from cells) (replicate (to - from) b) (drop k cells)
+    ∙ ap (λ xs. take from cells ++ (replicate (to - from) b ++ xs)) (ap (λ n. drop n cells) e ∙ held .1)
+    ∙ ap (λ xs. take from cells ++ xs) (replicate-append-replicate (to - from) (length cells - to) b ∙ ap (λ n. replicate n b) all)
+
+-- what stands before is kept
+pub front-kept :
+    {T : Type 0} (cells front : List T) (from to k : ℕ) (b : T) → k ≡ to → from ≤ to → to ≤ length cells → front ≡ wiped (take k cells) from b → take from (front ++ drop k cells) ≡ take from cells
+front-kept cells front from to k b e le within is =
+    let long : from ≤ length (take k cells) = let h = length-take k cells in omega arith in
+    let n : from ≤ length (wiped (take k cells) from b) = let h = length-wiped (take k cells) from b in omega arith in
+    ap (λ xs. take from (xs ++ drop k cells)) is ∙ take-append-le from (wiped (take k cells) from b) (drop k cells) n ∙ take-wiped (take k cells) from b ∙ take-take from k cells (omega arith)

@@ -51,13 +51,15 @@ fn append<T: Copy>(cells: &mut [T], count: usize, x: T) -> bool
     }
 }
 
-/// Makes every place from the count on blank.
-fn cut<T: Copy>(cells: &mut [T], count: usize, blank: T)
-    ensures cells { λ _. ⌜ now (cells .exit) ≡ wiped (now (cells .entry)) count blank ⌝ }
-    ensures items { λ _. ⌜ used (now (cells .exit)) count ≡ used (now (cells .entry)) count ⌝ }
-    ensures held { λ _. ⌜ (count ≤ length (now (cells .entry)) → Held blank (now (cells .exit)) count) ⌝ }
+/// Makes the places from `from` up to `to` blank; where those after `to` are blank, every place from `from` on is.
+fn cut<T: Copy>(cells: &mut [T], from: usize, to: usize, blank: T)
+    ensures cells { λ _. ⌜ (from ≤ to → Held blank (now (cells .entry)) to → now (cells .exit) ≡ wiped (now (cells .entry)) from blank) ⌝ }
+    ensures items { λ _. ⌜ used (now (cells .exit)) from ≡ used (now (cells .entry)) from ⌝ }
+    ensures held { λ _. ⌜ (from ≤ to → Held blank (now (cells .entry)) to → Held blank (now (cells .exit)) from) ⌝ }
 {
-    wipe(cells, count, blank);
+    if from <= to && to <= cells.len() {
+        wipe(&mut cells[0..to], from, blank);
+    }
 }
 
 /// A lent slice of records, of which the first `count` are in use.
@@ -118,17 +120,19 @@ impl<'a, T: Copy> Strip<'a, T> {
         pushed
     }
 
-    /// Cuts the records in use to the first `count`, and makes every place after them blank.
+    /// Cuts the records in use to the first `count`, and makes the places of the others blank.
+    /// It costs as many writes as records go, since the places past those in use are blank.
     pub fn truncate(&mut self, count: usize, blank: T)
-        ensures cells { λ _. ⌜ now (now (self .exit) .cells) ≡ wiped (now (now (self .entry) .cells)) (min count (now (self .entry) .count)) blank ⌝ }
+        ensures cells { λ _. ⌜ (Held blank (now (now (self .entry) .cells)) (now (self .entry) .count) → now (now (self .exit) .cells) ≡ wiped (now (now (self .entry) .cells)) (min count (now (self .entry) .count)) blank) ⌝ }
         ensures count { λ _. ⌜ now (self .exit) .count ≡ min count (now (self .entry) .count) ⌝ }
         ensures places { λ _. ⌜ length (now (now (self .exit) .cells)) ≡ length (now (now (self .entry) .cells)) ⌝ }
         ensures items { λ _. ⌜ used (now (now (self .exit) .cells)) (now (self .exit) .count) ≡ used (now (now (self .entry) .cells)) (min count (now (self .entry) .count)) ⌝ }
         ensures same { λ _. ⌜ name (now (self .exit) .cells) ≡ name (now (self .entry) .cells) ⌝ }
-        ensures held { λ _. ⌜ (now (self .entry) .count ≤ length (now (now (self .entry) .cells)) → Held blank (now (now (self .exit) .cells)) (now (self .exit) .count)) ⌝ }
+        ensures held { λ _. ⌜ (Held blank (now (now (self .entry) .cells)) (now (self .entry) .count) → Held blank (now (now (self .exit) .cells)) (now (self .exit) .count)) ⌝ }
     {
-        let left = count.min(self.count);
-        cut(self.cells, left, blank);
+        let used = self.count;
+        let left = count.min(used);
+        cut(self.cells, left, used, blank);
         self.count = left;
     }
 }

@@ -1,4 +1,3 @@
-pub mod Orders
 pub mod Searching
 pub mod Held
 pub mod Walking

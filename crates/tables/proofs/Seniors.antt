@@ -9,12 +9,12 @@ use lib.ListN.{length, getD}
 use Rattle.std.proofs.shelf.Edits.{length-between, getD-between}
 use Rattle.std.proofs.shelf.Tests.{cases-lt, cond-true, cond-false, lt-ltb, le-ltb}
 use Rattle.theory.specs.declared.Entry.{Entry}
-use Rattle.theory.specs.Measures.{Meaning, Lawful, Value}
+use Rattle.theory.specs.Measures.{Meaning, Lawful, Value, NoWorse}
 use Rattle.theory.specs.Tables.{entry, held}
 use Rattle.theory.specs.Order.{key, key-of, Lawful-entry, Sorted}
 use Rattle.tables.specs.Places.{Rising, Part}
 use Rattle.tables.specs.Walks.{Match, Walkable, Walked, over-seniors}
-use Rattle.tables.proofs.Orders.{NoWorse, no-worse-none, best-below-is}
+use Rattle.theory.proofs.Orders as orders
 use Rattle.tables.proofs.Held.{Stands, held-at, held-found}
 
 -- the key of an out pair and of an in pair
@@ -155,7 +155,7 @@ module _ {V : Type 0} {m : Meaning V} (laws : Lawful m) (es : List (Entry V)) (n
     than-join r walked w senior =
         let d = entry 0 0 (m .none) in
         let P : V → Type 0 = λ x. NoWorse m r x in
-        let worst = no-worse-none laws r (walked .is-value) in
+        let worst = orders.le-none m laws r (walked .is-value) in
         ⊎-elim
         (λ e. subst P (sym (ap (λ (x : V). m .join x (held m es w t)) e ∙ laws .none-in-front _ (held-value w t))) worst)
         (λ first. ⊎-elim
@@ -174,8 +174,8 @@ module _ {V : Type 0} {m : Meaning V} (laws : Lawful m) (es : List (Entry V)) (n
         } in
         let same = ap₂ (m .join) (out .1 .value-is d) (into .1 .value-is d) in
         subst P same (record {
-          first = walked .is-value;
-          second = subst (Value m) (sym same) (laws .join-is-value _ _ (held-value s w) (held-value w t));
+          left = walked .is-value;
+          right = subst (Value m) (sym same) (laws .join-is-value _ _ (held-value s w) (held-value w t));
           order = walked .not-worse (out .0) (into .0) d meeting;
         }))
         (held-found m es w t))
@@ -184,7 +184,7 @@ module _ {V : Type 0} {m : Meaning V} (laws : Lawful m) (es : List (Entry V)) (n
     walked-best : (r : V) → Walked m outs ins (m .none) r → r ≡ over-seniors m (held m es) s t
     walked-best r walked =
         let d = entry 0 0 (m .none) in
-        best-below-is laws (min s t) (λ w. m .join (held m es s w) (held m es w t))
+        orders.best-below-is m laws (min s t) (λ w. m .join (held m es s w) (held m es w t))
         (λ w. laws .join-is-value _ _ (held-value s w) (held-value w t))
         r (walked .is-value) (than-join r walked)
         (⊎-elim

@@ -8,10 +8,10 @@ use lib.ListN.{length, getD}
 use Rattle.std.proofs.shelf.Lists.{getD-read}
 use Rattle.std.proofs.shelf.Tests.{cases-lt}
 use Rattle.theory.specs.declared.Entry.{Entry}
-use Rattle.theory.specs.Measures.{Meaning, Lawful, Value, NotWorse, pick}
+use Rattle.theory.specs.Measures.{Meaning, Lawful, Value, NotWorse, pick, NoWorse}
 use Rattle.tables.specs.Places.{Rising}
 use Rattle.tables.specs.Walks.{Values, Match, join-at, Attained, Walkable, Walked}
-use Rattle.tables.proofs.Orders.{NoWorse, no-worse-refl, no-worse-trans, pick-no-worse-first, pick-no-worse-second, pick-cases}
+use Rattle.theory.proofs.Orders as orders
 
 -- r is the best of the start value and the joins of all matches with a place before i or before j
 pub record Walked-to {V : Type 0} (m : Meaning V) (outs ins : List (Entry V)) (start : V) (i j : ℕ) (r : V) : Type 0 where
@@ -26,14 +26,14 @@ ahead part es rises i p d le h = ⊎-elim (λ l. inr (rises i p d l h)) (λ l. i
 module _ {V : Type 0} {m : Meaning V} (laws : Lawful m) (outs ins : List (Entry V)) (start : V) (can : Walkable m outs ins start) where
   pub walked-none : Walked-to m outs ins start 0 0 start
   walked-none = record {
-    than-start = no-worse-refl laws start (can .start-is-value);
+    than-start = orders.reflexive m laws start (can .start-is-value);
     than-joins = λ p q d near at. absurd (⊎-elim (λ l. omega arith) (λ l. omega arith) near);
     attained = inl refl;
   }
 
   pub walked-all : (i j : ℕ) (r : V) → (length outs ≤ i) ⊎ (length ins ≤ j) → Walked-to m outs ins start i j r → Walked m outs ins start r
   walked-all i j r end h = record {
-    is-value = h .than-start .first;
+    is-value = h .than-start .left;
     not-worse-than-start = h .than-start .order;
     not-worse = λ p q d at.
         let a = at .out-within in
@@ -45,12 +45,12 @@ module _ {V : Type 0} {m : Meaning V} (laws : Lawful m) (outs ins : List (Entry 
   -- on to the places k and l with a value that is not worse, once the matches of i and j that are passed are looked at
   walked-on : (i j k l : ℕ) (r x : V) → Walked-to m outs ins start i j r → NoWorse m x r → Attained m outs ins start x → ((p q : ℕ) (d : Entry V) → i ≤ p → j ≤ q → (p < k) ⊎ (q < l) → Match outs ins p q → NoWorse m x (join-at m outs ins p q d)) → Walked-to m outs ins start k l x
   walked-on i j k l r x was better one-of more = record {
-    than-start = no-worse-trans laws better (was .than-start);
+    than-start = orders.trans m laws better (was .than-start);
     than-joins = λ p q d near at.
         ⊎-elim
-        (λ a. no-worse-trans laws better (was .than-joins p q d (inl a) at))
+        (λ a. orders.trans m laws better (was .than-joins p q d (inl a) at))
         (λ a. ⊎-elim
-        (λ b. no-worse-trans laws better (was .than-joins p q d (inr b) at))
+        (λ b. orders.trans m laws better (was .than-joins p q d (inr b) at))
         (λ b. more p q d a b near at)
         (cases-lt q j))
         (cases-lt p i);
@@ -65,7 +65,7 @@ module _ {V : Type 0} {m : Meaning V} (laws : Lawful m) (outs ins : List (Entry 
     back-at d = getD-read ins j back j-within back-read d
 
     kept-value : NoWorse m r r
-    kept-value = no-worse-refl laws r (was .than-start .first)
+    kept-value = orders.reflexive m laws r (was .than-start .left)
 
     -- where the places ahead lie, in sheets
     apart : (p q : ℕ) (d : Entry V) → i ≤ p → j ≤ q → Match outs ins p q → ((p ≡ i) ⊎ (front .to < getD outs p d .to)) × ((q ≡ j) ⊎ (back .from < getD ins q d .from))
@@ -124,16 +124,16 @@ module _ {V : Type 0} {m : Meaning V} (laws : Lawful m) (outs ins : List (Entry 
     pub walked-past-both : front .to ≡ back .from → (y : V) → y ≡ pick m r (m .join (front .value) (back .value)) → Walked-to m outs ins start (i + 1) (j + 1) y
     walked-past-both same y is-pick =
         let x = m .join (front .value) (back .value) in
-        let r-value = was .than-start .first in
+        let r-value = was .than-start .left in
         let P : V → Type 0 = λ z. NoWorse m z r in
         let Q : V → Type 0 = λ z. NoWorse m z x in
-        let than-r = subst P (sym is-pick) (pick-no-worse-first laws r x r-value join-value) in
-        let than-x = subst Q (sym is-pick) (pick-no-worse-second laws r x r-value join-value) in
+        let than-r = subst P (sym is-pick) (orders.pick-left m laws r x r-value join-value) in
+        let than-x = subst Q (sym is-pick) (orders.pick-right m laws r x r-value join-value) in
         walked-on i j (i + 1) (j + 1) r y was than-r
         (⊎-elim
         (λ e. ⊎-elim (λ s. inl (is-pick ∙ e ∙ s)) (λ s. inr (s .0, s .1, s .2, λ d. is-pick ∙ e ∙ s .3 d)) (was .attained))
         (λ e. inr (i, j, front-back-match same, λ d. is-pick ∙ e ∙ join-is i j d refl refl))
-        (pick-cases m r x))
+        (orders.pick-either m laws r x))
         (λ p q d a b near at.
         let lie = apart p q d a b at in
         let meets = at .meets d in

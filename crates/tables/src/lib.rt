@@ -2,7 +2,6 @@
 
 mod keys;
 mod lookups;
-mod reads;
 
 pub use keys::first_at;
 pub use keys::key;

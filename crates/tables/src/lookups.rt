@@ -11,8 +11,8 @@ use crate::keys::first_at;
 use crate::keys::ins_of;
 use crate::keys::key;
 use crate::keys::outs_of;
-use crate::reads::at;
 use measures::Measure;
+use strips::at;
 use theory::Entry;
 
 /// The value of `entry` if it leads from one sheet to the other, else none.
