@@ -6,21 +6,21 @@ use measures::Measure;
 use theory::Entry;
 use theory::Redraw;
 
-/// Lent slices of the right lengths for a book of so many sheets.
+/// Lent slices of the right lengths for a book of so many sheets. Whoever writes one down owes the lengths, which `check` answers for.
 #[derive(Drop)]
 pub struct Checked<'r, 't, 's, 'w, 'm, M: Measure> {
     /// The redraws will stand here.
-    pub(crate) register: &'r mut [Redraw],
+    pub register: &'r mut [Redraw],
     /// The entries of the table will stand here.
-    pub(crate) table: &'t mut [Entry<M>],
+    pub table: &'t mut [Entry<M>],
     /// The next table will be built here.
-    pub(crate) spare: &'s mut [Entry<M>],
+    pub spare: &'s mut [Entry<M>],
     /// A place for each sheet.
-    pub(crate) work: &'w mut [M],
+    pub work: &'w mut [M],
     /// A place for each sheet.
-    pub(crate) marks: &'m mut [u8],
+    pub marks: &'m mut [u8],
     /// How many sheets there are.
-    pub(crate) sheets: u16,
+    pub sheets: u16,
     ghost some_sheets: { 1 ≤ sheets },
     ghost few_sheets: { sheets ≤ 1024 },
     ghost few_redraws: { length (register .now) ≤ 16384 },

@@ -6,7 +6,7 @@ ghost use denote.Ref.{name};
 ghost use Rattle.std.specs.declared.result.Result.the-variants.{Ok, Err};
 ghost use Rattle.theory.specs.Books.{making-refusal, new-book};
 ghost use Rattle.book.specs.Views.{view, Kept, refusal-in};
-ghost use Rattle.book.specs.Makings.{MadeOver};
+ghost use Rattle.book.specs.Makings.{MadeOver, Makeable};
 use crate::book::Book;
 use crate::book::MOST_REDRAWS;
 use crate::book::blank_entry;
@@ -24,17 +24,18 @@ const MOST_SHEETS: u32 = 1024;
 /// The most entries that a table has places for.
 const MOST_ENTRIES: usize = 65536;
 
-/// Checks the number of sheets and the lengths of the lent slices.
-pub fn check<'r, 't, 's, 'w, 'm, M: Measure>(
+/// Checks the number of sheets and the lengths of the slices that are to be lent, and answers the number of sheets.
+/// What was checked then goes into `Checked`, which holds only slices of the right lengths.
+pub fn check<M: Measure>(
     sheets: u32,
-    register: &'r mut [Redraw],
-    table: &'t mut [Entry<M>],
-    spare: &'s mut [Entry<M>],
-    work: &'w mut [M],
-    marks: &'m mut [u8],
-) -> Result<Checked<'r, 't, 's, 'w, 'm, M>, Refusal>
+    register: &[Redraw],
+    table: &[Entry<M>],
+    spare: &[Entry<M>],
+    work: &[M],
+    marks: &[u8],
+) -> Result<u16, Refusal>
     ensures refusal { λ r. ⌜ refusal-in r ≡ making-refusal sheets (length (now (register .entry))) (length (now (table .entry))) (length (now (spare .entry))) (length (now (work .entry))) (length (now (marks .entry))) ⌝ }
-    ensures slices { λ r. ⌜ elim r [ Ok c ↦ (c .sheets ≡ sheets) × (c .register ≡ register .entry) × (c .table ≡ table .entry) × (c .spare ≡ spare .entry) × (c .work ≡ work .entry) × (c .marks ≡ marks .entry) | Err _ ↦ Unit {0} ] ⌝ }
+    ensures lengths { λ r. ⌜ elim r [ Ok n ↦ (n ≡ sheets) × Makeable n (length (now (register .entry))) (length (now (table .entry))) (length (now (spare .entry))) (length (now (work .entry))) (length (now (marks .entry))) | Err _ ↦ Unit {0} ] ⌝ }
 {
     if sheets < 1 || sheets > MOST_SHEETS {
         return Err(Refusal::SheetCount);
@@ -51,14 +52,7 @@ pub fn check<'r, 't, 's, 'w, 'm, M: Measure>(
     if work.len() != sheets as usize || marks.len() != sheets as usize {
         return Err(Refusal::WorkPlaces);
     }
-    Ok(Checked {
-        register,
-        table,
-        spare,
-        work,
-        marks,
-        sheets: sheets as u16,
-    })
+    Ok(sheets as u16)
 }
 
 /// An empty strip over a lent slice, every place of it made blank.

@@ -1,0 +1,4 @@
+pub mod Answering
+pub mod Cutting
+pub mod Listing
+pub mod Serving
