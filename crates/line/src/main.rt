@@ -1,5 +1,5 @@
 // The line program: an order sheet on standard input, its answers on standard output.
-use sessions::run::run;
+use desk::run::run;
 use std::error::AnyError;
 use std::io::Read;
 

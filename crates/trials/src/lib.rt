@@ -2,7 +2,7 @@
 
 #[cfg(test)]
 mod tests {
-    use sessions::run::run;
+    use desk::run::run;
     use std::test::*;
 
     // An order sheet and what is printed for it.

@@ -1,12 +1,20 @@
 // A whole session: the order sheet goes in, and what is printed for it comes out.
+ghost use mathlib.Core.Path.{_≡_};
+ghost use mathlib.Core.Bool.{false};
+ghost use mathlib.Core.List.{[], _++_};
+ghost use Prim.Native.Nat.{min};
 ghost use Rattle.std.specs.declared.result.Result.the-variants.{Ok, Err};
+ghost use Rattle.std.specs.Of.String.{string-bytes};
+ghost use Rattle.std.specs.Vec.{made};
+ghost use Rattle.theory.specs.Books.{making-refusal};
+ghost use Rattle.theory.specs.Refusals.{refusal-number};
+ghost use Rattle.answers.specs.Printed.{refused-line};
+ghost use Rattle.book.specs.Views.{refusal-in};
+ghost use Rattle.sessions.specs.InputLines.{ahead};
+ghost use Rattle.desk.specs.Desk.{Opened, Session};
+ghost use Rattle.desk.specs.Sizes.{HasPlaces};
 ghost use Rattle.std.specs.Of.Vec.{vec-len};
 ghost use Rattle.book.specs.Makings.{Makeable};
-use crate::attend::refusal_code;
-use crate::lines::Lines;
-use crate::serve::Opening;
-use crate::serve::await_opening;
-use crate::serve::serve;
 use answers::Layer;
 use book::Checked;
 use book::check;
@@ -27,6 +35,11 @@ use measures::Weakest;
 use measures::WeakestDisplay;
 use measures::WeakestMeasure;
 use orders::vocabulary::Kind;
+use sessions::attend::refusal_code;
+use sessions::lines::Lines;
+use sessions::serve::Opening;
+use sessions::serve::await_opening;
+use sessions::serve::serve;
 use std::alloc::AllocError;
 use std::alloc::Global;
 use theory::Entry;
@@ -43,9 +56,11 @@ const ENTRIES: usize = 1024;
 const SHEETS: u32 = 64;
 
 /// So many copies of a record.
-fn filled<T: Copy>(heap: Global, record: T, places: usize) -> Result<Vec<T>, AllocError> {
+fn filled<T: Copy>(heap: Global, record: T, places: usize) -> Result<Vec<T>, AllocError>
+    ensures { λ r. ⌜ made r (λ v. vec-len v ≡ places) ⌝ }
+{
     let mut records = Vec::new(heap);
-    for _ in 0..places {
+    for _held in 0..places {
         records.push(record)?;
     }
     Ok(records)
@@ -63,7 +78,9 @@ struct Memory<M: Measure> {
 
 impl<M: Measure> Memory<M> {
     /// Memory for a book of so many sheets: a work and a mark place for each sheet, as far as the program has them.
-    fn new(heap: Global, sheets: u32) -> Result<Memory<M>, AllocError> {
+    fn new(heap: Global, sheets: u32) -> Result<Memory<M>, AllocError>
+        ensures { λ r. ⌜ made r (λ v. HasPlaces (vec-len (v .register)) (vec-len (v .table)) (vec-len (v .spare)) (vec-len (v .work)) (vec-len (v .marks)) sheets) ⌝ }
+    {
         let places = sheets.min(SHEETS) as usize;
         let redraw = Redraw {
             from: 0,
@@ -87,7 +104,8 @@ impl<M: Measure> Memory<M> {
 
     /// The book's check of this memory for so many sheets.
     fn check(&self, sheets: u32) -> Result<u16, Refusal>
-        ensures { λ r. ⌜ elim r [ Ok n ↦ Makeable n (vec-len (now (self .entry) .register)) (vec-len (now (self .entry) .table)) (vec-len (now (self .entry) .spare)) (vec-len (now (self .entry) .work)) (vec-len (now (self .entry) .marks)) | Err _ ↦ Unit {0} ] ⌝ }
+        ensures refusal { λ r. ⌜ refusal-in r ≡ making-refusal sheets (vec-len (now (self .entry) .register)) (vec-len (now (self .entry) .table)) (vec-len (now (self .entry) .spare)) (vec-len (now (self .entry) .work)) (vec-len (now (self .entry) .marks)) ⌝ }
+        ensures lengths { λ r. ⌜ elim r [ Ok n ↦ (n ≡ sheets) × Makeable n (vec-len (now (self .entry) .register)) (vec-len (now (self .entry) .table)) (vec-len (now (self .entry) .spare)) (vec-len (now (self .entry) .work)) (vec-len (now (self .entry) .marks)) | Err _ ↦ Unit {0} ] ⌝ }
     {
         check(
             sheets,
@@ -101,11 +119,9 @@ impl<M: Measure> Memory<M> {
 }
 
 /// Prints that the book refuses the opening.
-fn opening_refused(
-    out: &mut String,
-    opening: Opening,
-    refusal: Refusal,
-) -> Result<bool, AllocError> {
+fn opening_refused(out: &mut String, opening: Opening, refusal: Refusal) -> Result<bool, AllocError>
+    ensures { λ r. ⌜ made r (λ opened. (opened ≡ false) × (string-bytes (now (out .exit)) ≡ string-bytes (now (out .entry)) ++ refused-line (opening .number) Layer.Book 0 (refusal-number refusal))) ⌝ }
+{
     answers::refused(out, opening.number, Layer::Book, 0, refusal_code(refusal))?;
     Ok(false)
 }
@@ -116,7 +132,10 @@ fn by_minutes(
     opening: Opening,
     lines: &mut Lines,
     out: &mut String,
-) -> Result<bool, AllocError> {
+) -> Result<bool, AllocError>
+    ensures opened { λ r. ⌜ (opening .kind ≡ Kind.Minutes → made r (λ opened. Opened opening (now (lines .entry) .number) (ahead (now (now (lines .entry) .input)) (now (lines .entry) .place)) opened (string-bytes (now (out .entry))) (string-bytes (now (out .exit))))) ⌝ }
+    ensures waits { λ r. ⌜ made r (λ opened. opened ≡ false → now (lines .exit) ≡ now (lines .entry)) ⌝ }
+{
     let mut memory: Memory<Minutes> = Memory::new(heap, opening.sheets)?;
     let sheets = match memory.check(opening.sheets) {
         Ok(sheets) => sheets,
@@ -142,7 +161,10 @@ fn by_chain(
     opening: Opening,
     lines: &mut Lines,
     out: &mut String,
-) -> Result<bool, AllocError> {
+) -> Result<bool, AllocError>
+    ensures opened { λ r. ⌜ (opening .kind ≡ Kind.Chain → made r (λ opened. Opened opening (now (lines .entry) .number) (ahead (now (now (lines .entry) .input)) (now (lines .entry) .place)) opened (string-bytes (now (out .entry))) (string-bytes (now (out .exit))))) ⌝ }
+    ensures waits { λ r. ⌜ made r (λ opened. opened ≡ false → now (lines .exit) ≡ now (lines .entry)) ⌝ }
+{
     let mut memory: Memory<Chain> = Memory::new(heap, opening.sheets)?;
     let sheets = match memory.check(opening.sheets) {
         Ok(sheets) => sheets,
@@ -168,7 +190,10 @@ fn by_weakest(
     opening: Opening,
     lines: &mut Lines,
     out: &mut String,
-) -> Result<bool, AllocError> {
+) -> Result<bool, AllocError>
+    ensures opened { λ r. ⌜ (opening .kind ≡ Kind.Weakest → made r (λ opened. Opened opening (now (lines .entry) .number) (ahead (now (now (lines .entry) .input)) (now (lines .entry) .place)) opened (string-bytes (now (out .entry))) (string-bytes (now (out .exit))))) ⌝ }
+    ensures waits { λ r. ⌜ made r (λ opened. opened ≡ false → now (lines .exit) ≡ now (lines .entry)) ⌝ }
+{
     let mut memory: Memory<Weakest> = Memory::new(heap, opening.sheets)?;
     let sheets = match memory.check(opening.sheets) {
         Ok(sheets) => sheets,
@@ -194,7 +219,10 @@ fn open(
     opening: Opening,
     lines: &mut Lines,
     out: &mut String,
-) -> Result<bool, AllocError> {
+) -> Result<bool, AllocError>
+    ensures opened { λ r. ⌜ made r (λ opened. Opened opening (now (lines .entry) .number) (ahead (now (now (lines .entry) .input)) (now (lines .entry) .place)) opened (string-bytes (now (out .entry))) (string-bytes (now (out .exit)))) ⌝ }
+    ensures waits { λ r. ⌜ made r (λ opened. opened ≡ false → now (lines .exit) ≡ now (lines .entry)) ⌝ }
+{
     match opening.kind {
         Kind::Minutes => by_minutes(heap, opening, lines, out),
         Kind::Chain => by_chain(heap, opening, lines, out),
@@ -202,16 +230,15 @@ fn open(
     }
 }
 
-/// What is printed for an order sheet. Every opening takes a line, so there are no more of them than bytes.
-pub fn run(heap: Global, input: &[u8]) -> Result<String, AllocError> {
+/// What is printed for an order sheet.
+pub fn run(heap: Global, input: &[u8]) -> Result<String, AllocError>
+    ensures { λ r. ⌜ made r (λ text. Session 0 (ahead (now (input .entry)) 0) [] (string-bytes text)) ⌝ }
+{
     let mut out = String::new(heap);
     let mut lines = Lines::new(input);
-    for _ in 0..input.len() {
-        let Some(opening) = await_opening(heap, &mut lines, &mut out)? else {
-            break;
-        };
+    while let Some(opening) = await_opening(heap, &mut lines, &mut out)? {
         if open(heap, opening, &mut lines, &mut out)? {
-            break;
+            return Ok(out);
         }
     }
     Ok(out)
