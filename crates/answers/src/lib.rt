@@ -2,6 +2,7 @@
 ghost use mathlib.Core.List.{_++_};
 ghost use mathlib.Core.Path.{_≡_};
 ghost use Rattle.answers.specs.Printed.{layer-text, progress-text, refused-line, opening-line, redraw-line, clear-line, root-line, look-line, entry-line};
+ghost use Rattle.theory.specs.Refusals.{refusal-number};
 ghost use Rattle.std.specs.Of.String.{string-bytes};
 ghost use Rattle.std.specs.Results.{isOk};
 ghost use Rattle.std.specs.Vec.{made};
@@ -10,6 +11,7 @@ use orders::vocabulary::Kind;
 use std::alloc::AllocError;
 use std::fmt;
 use theory::Progress;
+use theory::Refusal;
 
 // Who refuses a line.
 #[derive(Clone, Copy)]
@@ -39,6 +41,28 @@ pub fn progress_text(progress: Progress) -> &'static str
     match progress {
         Progress::Open => "open",
         Progress::Finished => "finished",
+    }
+}
+
+// The number by which a refusal of the book is printed.
+pub fn refusal_code(refusal: Refusal) -> u32
+    ensures { λ r. ⌜ r ≡ refusal-number refusal ⌝ }
+{
+    match refusal {
+        Refusal::SheetCount => 1,
+        Refusal::RegisterPlaces => 2,
+        Refusal::TablePlaces => 3,
+        Refusal::SparePlaces => 4,
+        Refusal::WorkPlaces => 5,
+        Refusal::UnknownSheet => 6,
+        Refusal::SameSheet => 7,
+        Refusal::Minutes => 8,
+        Refusal::Grade => 9,
+        Refusal::RegisterFull => 10,
+        Refusal::OtherBuilder => 11,
+        Refusal::AlreadyFinished => 12,
+        Refusal::WantOfPlaces => 13,
+        Refusal::NotFinished => 14,
     }
 }
 

@@ -6,10 +6,8 @@ mod entering;
 mod looking;
 mod making;
 mod phase;
-mod refusals;
 mod rooting;
 
 pub use book::Book;
 pub use checked::Checked;
 pub use making::check;
-pub use refusals::number;

@@ -4,7 +4,6 @@ mod chain_book;
 mod chain_calls;
 mod minutes_book;
 mod minutes_calls;
-mod priced;
 mod weakest_book;
 mod weakest_calls;
 
@@ -12,6 +11,5 @@ pub use chain_book::ChainBook;
 pub use chain_calls::ChainPriced;
 pub use minutes_book::MinutesBook;
 pub use minutes_calls::MinutesPriced;
-pub use priced::PricedBook;
 pub use weakest_book::WeakestBook;
 pub use weakest_calls::WeakestPriced;

@@ -9,35 +9,14 @@ ghost use Rattle.std.specs.Vec.{made};
 ghost use Rattle.theory.specs.Books.{answered, moved, enter as enter-call, clear as clear-call, root as root-call, look as look-call, list as list-call};
 ghost use Rattle.theory.specs.Refusals.{refusal-number};
 use answers::Layer;
-use ledgers::PricedBook;
+use answers::refusal_code;
 use orders::commands::Command;
+use priced::PricedBook;
 use std::alloc::AllocError;
 use std::alloc::Global;
 use std::fmt::Display;
 use theory::Entry;
 use theory::Refusal;
-
-// The number of a refusal.
-pub fn refusal_code(refusal: Refusal) -> u32
-    ensures { λ r. ⌜ r ≡ refusal-number refusal ⌝ }
-{
-    match refusal {
-        Refusal::SheetCount => 1,
-        Refusal::RegisterPlaces => 2,
-        Refusal::TablePlaces => 3,
-        Refusal::SparePlaces => 4,
-        Refusal::WorkPlaces => 5,
-        Refusal::UnknownSheet => 6,
-        Refusal::SameSheet => 7,
-        Refusal::Minutes => 8,
-        Refusal::Grade => 9,
-        Refusal::RegisterFull => 10,
-        Refusal::OtherBuilder => 11,
-        Refusal::AlreadyFinished => 12,
-        Refusal::WantOfPlaces => 13,
-        Refusal::NotFinished => 14,
-    }
-}
 
 // Prints that the book refuses the line.
 fn turned_away(out: &mut String, number: usize, refusal: Refusal) -> Result<(), AllocError>
