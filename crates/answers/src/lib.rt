@@ -1,9 +1,8 @@
 // The lines that are printed. Each function appends one line to the text, or fails for want of memory.
 ghost use Rattle.std.specs.Prelude.{◌≡◌, ◌++◌, is_ok, string_bytes, OnOk};
-ghost use Rattle.answers.specs.Printed.{layer_text, progress_text, refused_line, line_refusal, book_refusal, numbered_line, opening_line, redraw_line, clear_line, built_line, round_line, root_line, look_line, entry_line};
+ghost use Rattle.answers.specs.Printed.{layer_text, progress_text, refused_line, opening_line, redraw_line, clear_line, root_line, look_line, entry_line};
 ghost use Rattle.theory.specs.Refusals.{refusal_number};
 
-use orders::refusals::LineRefusal;
 use orders::vocabulary::{FirstWord, Kind};
 use std::alloc::AllocError;
 use std::fmt;
@@ -86,75 +85,37 @@ pub fn refused(
     written(writeln!(out, "refused {line} {layer} {word} {number}"))
 }
 
-// A refusal by the line language.
-pub fn line_refused(out: &mut String, line: usize, refusal: LineRefusal) -> Result<(), AllocError>
-    ensures { OnOk result (string_bytes out.new ≡ string_bytes out.old ++ line_refusal line refusal) }
-{
-    refused(out, line, Layer::Line, refusal.word(), refusal.number())
-}
-
-// A refusal by the book.
-pub fn book_refused(out: &mut String, line: usize, refusal: Refusal) -> Result<(), AllocError>
-    ensures { OnOk result (string_bytes out.new ≡ string_bytes out.old ++ book_refusal line refusal) }
-{
-    refused(out, line, Layer::Book, 0, refusal_code(refusal))
-}
-
-// A first word with a number.
-fn numbered(out: &mut String, word: FirstWord, number: usize) -> Result<(), AllocError>
-    ensures { OnOk result (string_bytes out.new ≡ string_bytes out.old ++ numbered_line word number) }
-{
-    let word = word.text();
-    written(writeln!(out, "{word} {number}"))
-}
-
 // An opening of a book with so many sheets.
 pub fn opening(out: &mut String, kind: Kind, sheets: u32) -> Result<(), AllocError>
     ensures { OnOk result (string_bytes out.new ≡ string_bytes out.old ++ opening_line kind sheets) }
 {
-    numbered(out, FirstWord::Open(kind), sheets as usize)
+    let word = FirstWord::Open(kind).text();
+    written(writeln!(out, "{word} {sheets}"))
 }
 
 // A redraw that was entered, with the number of redraws held.
 pub fn redraw(out: &mut String, held: usize) -> Result<(), AllocError>
     ensures { OnOk result (string_bytes out.new ≡ string_bytes out.old ++ redraw_line held) }
 {
-    numbered(out, FirstWord::Redraw, held)
+    let word = FirstWord::Redraw.text();
+    written(writeln!(out, "{word} {held}"))
 }
 
 // A clear.
 pub fn clear(out: &mut String) -> Result<(), AllocError>
     ensures { OnOk result (string_bytes out.new ≡ string_bytes out.old ++ clear_line) }
 {
-    out.push_str("clear\n")
+    let word = FirstWord::Clear.text();
+    written(writeln!(out, "{word}"))
 }
 
-// A step of a builder, by its word: its number and how far the book is built.
-fn built(
-    out: &mut String,
-    builder: FirstWord,
-    number: usize,
-    progress: Progress,
-) -> Result<(), AllocError>
-    ensures { OnOk result (string_bytes out.new ≡ string_bytes out.old ++ built_line builder number progress) }
+// A root that was built, with the builder's number and how far the book is built.
+pub fn root(out: &mut String, builder: usize, progress: Progress) -> Result<(), AllocError>
+    ensures { OnOk result (string_bytes out.new ≡ string_bytes out.old ++ root_line builder progress) }
 {
-    let word = builder.text();
+    let word = FirstWord::Root.text();
     let progress = progress_text(progress);
-    written(writeln!(out, "{word} {number} {progress}"))
-}
-
-// A round that was laid, with its number and how far the book is built.
-pub fn round(out: &mut String, number: usize, progress: Progress) -> Result<(), AllocError>
-    ensures { OnOk result (string_bytes out.new ≡ string_bytes out.old ++ round_line number progress) }
-{
-    built(out, FirstWord::Round, number, progress)
-}
-
-// A root that was built, with its number and how far the book is built.
-pub fn root(out: &mut String, number: usize, progress: Progress) -> Result<(), AllocError>
-    ensures { OnOk result (string_bytes out.new ≡ string_bytes out.old ++ root_line number progress) }
-{
-    built(out, FirstWord::Root, number, progress)
+    written(writeln!(out, "{word} {builder} {progress}"))
 }
 
 // The answer to a look, by its value's text.
@@ -170,4 +131,28 @@ pub fn entry(out: &mut String, from: u32, to: u32, value: &str) -> Result<(), Al
     ensures { OnOk result (string_bytes out.new ≡ string_bytes out.old ++ entry_line from to value.now) }
 {
     written(writeln!(out, "entry {from} {to} {value}"))
+}
+
+#[cfg(test)]
+mod tests {
+    use super::*;
+    use std::test::Fail;
+
+    // The printed lines, one after another.
+    #[test]
+    fn lines_are_printed(rt: HostRuntime) -> Result<(), Fail> {
+        let mut out = String::new(rt.alloc());
+        opening(&mut out, Kind::Minutes, 4)?;
+        redraw(&mut out, 3)?;
+        refused(&mut out, 7, Layer::Line, 2, 23)?;
+        root(&mut out, 4, Progress::Finished)?;
+        look(&mut out, "2 3")?;
+        entry(&mut out, 3, 0, "40")?;
+        clear(&mut out)?;
+        assert!(rt;
+            out.as_str()
+                == "minutes 4\nredraw 3\nrefused 7 line 2 23\nroot 4 finished\nlook 2 3\nentry 3 0 40\nclear\n"
+        );
+        Ok(())
+    }
 }

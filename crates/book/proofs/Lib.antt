@@ -1,5 +1,3 @@
 mod Places
 mod Lookups
-mod Putting
-mod Turns
-pub mod Facts
+mod NextRoots

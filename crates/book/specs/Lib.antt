@@ -2,4 +2,4 @@ pub mod Views
 pub mod Registers
 pub mod Makings
 pub mod Phases
-pub mod Building
+pub mod Rooting

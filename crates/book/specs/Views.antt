@@ -28,18 +28,11 @@ strips_of b = record {
   marks = b.marks.cells.now;
 }
 
--- the strips are laid out as the view says: counts within the places, none of the spare, work and mark places in use, every other place blank
-pub record Shaped {M : Type 0} (m : Meaning M) (b : Book M) : Type 0 where
+-- what is true of every book that was made and called: counts within the places, strips laid out as its view says, and a sound view
+pub record Kept {M : Type 0} (m : Meaning M) (b : Book M) : Type 0 where
   pub redraws_counted : b.register.count ≤ length b.register.cells.now
   pub entries_counted : b.table.count ≤ length b.table.cells.now
-  pub spare_unused : b.spare.count ≡ 0
-  pub work_unused : b.work.count ≡ 0
-  pub marks_unused : b.marks.count ≡ 0
   pub strips_laid_out : strips_of b ≡ laid_out m (view b)
-
--- what is true of every book that was made and called: its strips are laid out, and what is seen of it is sound
-pub record Kept {M : Type 0} (m : Meaning M) (b : Book M) : Type 0 where
-  pub shaped : Shaped m b
   pub sound : Sound m (view b)
 
 -- what every call promises: of a kept book it answers and leaves what the rules name, and the book is kept

@@ -2,13 +2,11 @@
 
 mod book;
 mod checked;
-mod concluding;
 mod entering;
 mod looking;
 mod making;
 mod phase;
 mod rooting;
-mod rounding;
 
 pub use book::Book;
 pub use checked::Checked;

@@ -3,7 +3,6 @@ ghost use Rattle.std.specs.Prelude.{◌≡◌, ◌<◌, false, ◌&&◌, Ok, Err
 ghost use Rattle.theory.specs.Chains.{BestOver};
 ghost use Rattle.theory.specs.Tables.{answer as table-answer, held};
 ghost use Rattle.theory.specs.Books.{look as look-call, list as list-call, refused, entries_are, look_answer, Guarantee};
-ghost use Rattle.runs.specs.Runs.{Promise};
 ghost use Rattle.book.specs.Views.{view, Kept, Called};
 
 use crate::book::Book;
@@ -51,11 +50,10 @@ impl<'r, 't, 's, 'w, 'm, M: Measure> Book<'r, 't, 's, 'w, 'm, M> {
         }
     }
 
-    /// The entries of the finished table, with the promise over all runs of calls under this measure.
+    /// The entries of the finished table.
     pub fn list(&self) -> Result<&[Entry<M>], Refusal>
         ensures called { Called M.Measure.meaning self.now list-call (elim result [ Ok es ↦ entries_are es.now | Err e ↦ refused e ]) self.now }
         ensures guarantee { elim result [ Ok _ ↦ (Kept M.Measure.meaning self.now → Guarantee M.Measure.meaning (view self.now)) | Err _ ↦ Unit {0} ] }
-        ensures promise { Promise M.Measure.meaning }
     {
         match self.phase {
             Phase::Finished => Ok(self.entries()),

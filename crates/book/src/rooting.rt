@@ -1,21 +1,31 @@
 // Root: the builder's turn that adds the entries of the next root.
-ghost use Rattle.std.specs.Prelude.{◌≡◌, suc, ◌<◌, min, true, false, length, Some, Ok, Err};
-ghost use Rattle.theory.specs.Books.{root as root-call, built_answer, root_refusal, root_entries, NothingFits};
-ghost use Rattle.runs.specs.Turns.{NextRoot};
+ghost use Rattle.std.specs.Prelude.{◌≡◌, min, true, false, Some, Ok, Err};
+ghost use Rattle.theory.specs.Books.{View, Sound, root as root-call, built, taken_answer, taken_view, built_answer, root_refusal, progress, NothingFits};
 ghost use Rattle.book.specs.Views.{view, Kept, Called, SameSlices};
-ghost use Rattle.book.specs.Building.{PutIn, LeftOut};
+ghost use Rattle.book.specs.Rooting.{NextRoot, PutIn, LeftOut};
 
 use crate::book::Book;
-use crate::phase::Taken;
+use crate::phase::{Taken, advance};
 use measures::Measure;
 use roots::grow;
-use theory::{Built, Phase, Refusal};
+use theory::{Built, Phase, Progress, Refusal};
 
 /// A sheet's number, as many as 16 bits hold.
 fn sheet_number(done: u32) -> u16
     ensures { result ≡ min done 65535 }
 {
     done.min(65535) as u16
+}
+
+/// What a builder says of the book after its turn.
+fn progress_of(done: bool) -> Progress
+    ensures { result ≡ progress done }
+{
+    if done {
+        Progress::Finished
+    } else {
+        Progress::Open
+    }
 }
 
 impl<'r, 't, 's, 'w, 'm, M: Measure> Book<'r, 't, 's, 'w, 'm, M> {
@@ -33,8 +43,8 @@ impl<'r, 't, 's, 'w, 'm, M: Measure> Book<'r, 't, 's, 'w, 'm, M> {
 
     /// Puts the entries of the root into the table, if they find places.
     fn put_in(&mut self, root: u16) -> bool
-        ensures taken { result ≡ true → Kept M.Measure.meaning self.old → NextRoot M.Measure.meaning (view self.old) root → PutIn M.Measure.meaning (view self.old) (root_entries M.Measure.meaning (view self.old) (suc root)) self.new }
-        ensures refused { result ≡ false → Kept M.Measure.meaning self.old → NextRoot M.Measure.meaning (view self.old) root → ((view self.old).table_places < length (root_entries M.Measure.meaning (view self.old) (suc root))) × LeftOut M.Measure.meaning (view self.old) self.new }
+        ensures taken { result ≡ true → Kept M.Measure.meaning self.old → NextRoot M.Measure.meaning (view self.old) root → PutIn M.Measure.meaning (view self.old) root self.new }
+        ensures refused { result ≡ false → Kept M.Measure.meaning self.old → NextRoot M.Measure.meaning (view self.old) root → LeftOut M.Measure.meaning (view self.old) root self.new }
         ensures slices { SameSlices self.old self.new }
     {
         let sheets = self.sheets;
@@ -63,6 +73,20 @@ impl<'r, 't, 's, 'w, 'm, M: Measure> Book<'r, 't, 's, 'w, 'm, M> {
         }
     }
 
+    /// Moves the phase on after the root, and answers how many roots are done and whether the book is finished.
+    fn conclude(&mut self, root: u16) -> Built
+        ensures concluded { (v : View M) → Sound M.Measure.meaning v → NextRoot M.Measure.meaning v root → PutIn M.Measure.meaning v root self.old → (built result.number result.progress ≡ taken_answer M.Measure.meaning v root-call) × (view self.new ≡ taken_view M.Measure.meaning v root-call) × Kept M.Measure.meaning self.new }
+        ensures slices { SameSlices self.old self.new }
+    {
+        let number = root as u32 + 1;
+        let last = number == self.sheets as u32;
+        advance(&mut self.phase, Taken::Root(last));
+        Built {
+            number,
+            progress: progress_of(last),
+        }
+    }
+
     /// Builds the next root, from sheet 0 on: afterwards the table is every finished entry whose senior sheet is the root or lower.
     /// Answers how many roots are done and whether the book is finished.
     pub fn root(&mut self) -> Result<Built, Refusal>
@@ -74,8 +98,6 @@ impl<'r, 't, 's, 'w, 'm, M: Measure> Book<'r, 't, 's, 'w, 'm, M> {
         if !self.put_in(root) {
             return Err(Refusal::WantOfPlaces);
         }
-        let number = root as u32 + 1;
-        let last = number == self.sheets as u32;
-        Ok(self.conclude(Taken::Root(last), number, last))
+        Ok(self.conclude(root))
     }
 }

@@ -3,6 +3,7 @@
 use Rattle.std.specs.Prelude.{◌≡◌, ℕ, min, Bool, true, false, List, ◌++◌, Some, None, Option}
 use Rattle.theory.specs.declared.Refusal.{Refusal}
 use Rattle.theory.specs.Books.{View, making_refusal, new_book}
+use Rattle.theory.specs.Refusals.{refusal_number}
 use Rattle.measures.specs.declared.minutes.Minutes as minutes
 use Rattle.measures.specs.declared.chain.Chain as chain
 use Rattle.measures.specs.declared.weakest.Weakest as weakest
@@ -12,31 +13,25 @@ use Rattle.measures.specs.WeakestMeaning.{weakest_meaning}
 use Rattle.measures.specs.Texts.{minutes_text, chain_text, weakest_text}
 use Rattle.orders.specs.declared.vocabulary.Kind.{Kind}
 use Rattle.orders.specs.declared.vocabulary.Kind.TheVariants as kinds
-use Rattle.answers.specs.Printed.{book_refusal, opening_line}
-use Rattle.reading.specs.declared.Opening.{Opening}
-use Rattle.reading.specs.Openings.{OpeningAwaited}
-use Rattle.sessions.specs.Serving.{Served}
+use Rattle.answers.specs.declared.Layer.TheVariants as layers
+use Rattle.answers.specs.Printed.{refused_line, opening_line}
+use Rattle.sessions.specs.declared.serve.Opening.{Opening}
+use Rattle.sessions.specs.Serving.{Served, OpeningAwaited}
 
 -- why the book refuses an opening with so many sheets, if it does: 512 places for redraws, 1,024 for entries, at most 64 for sheets
 abbrev pub opening_refusal : ℕ → Option Refusal
 opening_refusal sheets = making_refusal sheets 512 1024 1024 (min sheets 64) (min sheets 64)
 
--- whether a book of the kind is built by rounds too
-abbrev pub by_rounds : Kind → Bool
-by_rounds kinds.Minutes = true
-by_rounds kinds.Chain = true
-by_rounds kinds.Weakest = false
-
--- the further lines are carried out on a new book of the kind, with so many sheets and places for redraws and entries
-abbrev pub ServedUnder : Kind → ℕ → List (List ℕ) → ℕ → ℕ → ℕ → List ℕ → List ℕ → Type 0
-ServedUnder kinds.Minutes number lines sheets register table before after = (w : View minutes.Minutes) × Served minutes_meaning (by_rounds kinds.Minutes) (λ a. Some (minutes_text a)) number lines (new_book sheets register table) w before after
-ServedUnder kinds.Chain number lines sheets register table before after = (w : View chain.Chain) × Served chain_meaning (by_rounds kinds.Chain) (λ a. Some (chain_text a)) number lines (new_book sheets register table) w before after
-ServedUnder kinds.Weakest number lines sheets register table before after = (w : View weakest.Weakest) × Served weakest_meaning (by_rounds kinds.Weakest) (λ a. Some (weakest_text a)) number lines (new_book sheets register table) w before after
+-- the further lines are carried out on a new book of the kind, with so many sheets
+abbrev pub ServedUnder : Kind → ℕ → List (List ℕ) → ℕ → List ℕ → List ℕ → Type 0
+ServedUnder kinds.Minutes number lines sheets before after = (w : View minutes.Minutes) × Served minutes_meaning (λ a. Some (minutes_text a)) number lines (new_book sheets 512 1024) w before after
+ServedUnder kinds.Chain number lines sheets before after = (w : View chain.Chain) × Served chain_meaning (λ a. Some (chain_text a)) number lines (new_book sheets 512 1024) w before after
+ServedUnder kinds.Weakest number lines sheets before after = (w : View weakest.Weakest) × Served weakest_meaning (λ a. Some (weakest_text a)) number lines (new_book sheets 512 1024) w before after
 
 -- the book refuses the opening, or takes it and the further lines are carried out on it
 abbrev pub Opened : Opening → ℕ → List (List ℕ) → Bool → List ℕ → List ℕ → Type 0
-Opened o number lines false before after = (e : Refusal) × (opening_refusal o.sheets ≡ Some e) × (after ≡ before ++ book_refusal o.number e)
-Opened o number lines true before after = (opening_refusal o.sheets ≡ None) × ServedUnder o.kind number lines o.sheets 512 1024 (before ++ opening_line o.kind o.sheets) after
+Opened o number lines false before after = (e : Refusal) × (opening_refusal o.sheets ≡ Some e) × (after ≡ before ++ refused_line o.number layers.Book 0 (refusal_number e))
+Opened o number lines true before after = (opening_refusal o.sheets ≡ None) × ServedUnder o.kind number lines o.sheets (before ++ opening_line o.kind o.sheets) after
 
 -- the lines that follow the one with this number are a whole session that turns the text before into the text after
 pub data Session : ℕ → List (List ℕ) → List ℕ → List ℕ → Type 0 where

@@ -1,4 +1,2 @@
 // The desk: an order sheet goes in whole, and what is printed for it comes out.
-mod books;
-mod memory;
 pub mod run;

@@ -5,9 +5,7 @@ use Rattle.std.specs.Str.{bytes_eq}
 use Rattle.std.proofs.lemmas.Slice.Eq.{bytes_eq-Decides}
 use Rattle.std.proofs.lemmas.List.{at_drop_more, at_drop_all}
 use Rattle.std.proofs.lemmas.Bool.{cond-true, cond-false, cases_Bool, both_ways}
-use Rattle.orders.specs.declared.vocabulary.Kind.TheVariants.{Minutes, Chain, Weakest}
 use Rattle.orders.specs.declared.vocabulary.FirstWord.{FirstWord}
-use Rattle.orders.specs.declared.vocabulary.FirstWord.TheVariants as word
 use Rattle.words.specs.Tokens.{only_digits}
 use Rattle.orders.specs.Vocabulary.{spelling, spelled_so, first_words, named_by}
 
@@ -39,16 +37,4 @@ spelled_by_digits name (w ∷ ws) d a =
 
 -- digits spell no first word
 pub named_by_digits : (name : List ℕ) → only_digits name ≡ true → None ≡ named_by name
-named_by_digits name d = spelled_by_digits name first_words d (refl, (refl, (refl, (refl, (refl, (refl, (refl, (refl, (refl, tt)))))))))
-
--- every first word is known again by its spelling
-pub known_again : (w : FirstWord) → named_by (spelling w) ≡ Some w
-known_again (word.Open Minutes) = refl
-known_again (word.Open Chain) = refl
-known_again (word.Open Weakest) = refl
-known_again word.Redraw = refl
-known_again word.Clear = refl
-known_again word.Round = refl
-known_again word.Root = refl
-known_again word.Look = refl
-known_again word.List = refl
+named_by_digits name d = spelled_by_digits name first_words d (refl, (refl, (refl, (refl, (refl, (refl, (refl, (refl, tt))))))))

@@ -1,6 +1,6 @@
--- What a line asks for. A line is checked in this order: its first word is known here, as many words follow as that word takes, each of
--- them is a number, and it comes in turn, which is that an opening comes before one was accepted and any other command after. The first
--- check that fails refuses the line; where none does, the line is a command.
+-- What a line asks for. A line is checked in this order: its first word is known, as many words follow as that word takes, each of them
+-- is a number, and it comes in turn, which is that an opening comes before one was accepted and any other command after. The first check
+-- that fails refuses the line; where none does, the line is a command.
 use Rattle.std.specs.Prelude.{◌≡◌, ℕ, ◌+◌, ◌<◌, Bool, cond, not, List, [], ◌∷◌, map, length, Some, None, Ok, Err, Option, Result, ◌==◌, slice_index}
 use Rattle.orders.specs.declared.commands.Command.{Command}
 use Rattle.orders.specs.declared.commands.Command.TheVariants as command
@@ -11,14 +11,13 @@ use Rattle.orders.specs.declared.vocabulary.FirstWord.TheVariants as word
 use Rattle.words.specs.declared.split.Place.{Place}
 use Rattle.words.specs.Numbers.{value, is_number}
 use Rattle.words.specs.Tokens.{word_at}
-use Rattle.orders.specs.Vocabulary.{numbers_after, begins_book, named_by, known_here}
+use Rattle.orders.specs.Vocabulary.{numbers_after, begins_book, named_by}
 
 -- the word that a line with the command begins with
 abbrev pub first_word_of : Command → FirstWord
 first_word_of (command.Open k n) = word.Open k
 first_word_of (command.Redraw f t m g) = word.Redraw
 first_word_of command.Clear = word.Clear
-first_word_of command.Round = word.Round
 first_word_of command.Root = word.Root
 first_word_of (command.Look f t) = word.Look
 first_word_of command.List = word.List
@@ -28,7 +27,6 @@ abbrev pub command_of : FirstWord → List ℕ → Command
 command_of (word.Open k) ns = command.Open k (slice_index ns 0)
 command_of word.Redraw ns = command.Redraw (slice_index ns 0) (slice_index ns 1) (slice_index ns 2) (slice_index ns 3)
 command_of word.Clear ns = command.Clear
-command_of word.Round ns = command.Round
 command_of word.Root ns = command.Root
 command_of word.Look ns = command.Look (slice_index ns 0) (slice_index ns 1)
 command_of word.List ns = command.List
@@ -57,10 +55,10 @@ read_rest line rest opened None = Err refusal.FirstWord
 read_rest line rest opened (Some w) =
     cond (length rest == numbers_after w) (read_numbers line rest opened w (faulty_from line 1 rest)) (Err refusal.WordCount)
 
--- the line whose words are at the places, by whether an opening was accepted before and whether a round is a word here
-abbrev pub read_as : List ℕ → List Place → Bool → Bool → Result Command LineRefusal
-read_as line [] opened rounds = Err refusal.FirstWord
-read_as line (first ∷ rest) opened rounds = read_rest line rest opened (known_here rounds (named_by (word_at line first)))
+-- the line whose words are at the places
+abbrev pub read_as : List ℕ → List Place → Bool → Result Command LineRefusal
+read_as line [] opened = Err refusal.FirstWord
+read_as line (first ∷ rest) opened = read_rest line rest opened (named_by (word_at line first))
 
 -- what is read of the words as numbers: all are numbers and the first four are held, or the first that is none is named, counted from 1
 abbrev pub NumbersRead : List ℕ → List Place → Result (List ℕ) LineRefusal → Type 0

@@ -1,5 +1,5 @@
 -- The words that a line may begin with. Each is spelled in small letters and takes so many numbers. Three of them open a book, one for
--- each measure. Any other first word is unknown, and so is round where the open book is not built by rounds.
+-- each measure. Any other first word is unknown.
 use Rattle.std.specs.Prelude.{ℕ, Bool, true, false, cond, List, [], ◌∷◌, Some, None, codes, Option}
 use Rattle.std.specs.Str.{bytes_eq}
 use Rattle.orders.specs.declared.vocabulary.Kind.{Kind}
@@ -14,7 +14,6 @@ spelling (word.Open Chain) = codes "chain"
 spelling (word.Open Weakest) = codes "weakest"
 spelling word.Redraw = codes "redraw"
 spelling word.Clear = codes "clear"
-spelling word.Round = codes "round"
 spelling word.Root = codes "root"
 spelling word.Look = codes "look"
 spelling word.List = codes "list"
@@ -24,7 +23,6 @@ abbrev pub numbers_after : FirstWord → ℕ
 numbers_after (word.Open k) = 1
 numbers_after word.Redraw = 4
 numbers_after word.Clear = 0
-numbers_after word.Round = 0
 numbers_after word.Root = 0
 numbers_after word.Look = 2
 numbers_after word.List = 0
@@ -34,7 +32,6 @@ abbrev pub begins_book : FirstWord → Bool
 begins_book (word.Open k) = true
 begins_book word.Redraw = false
 begins_book word.Clear = false
-begins_book word.Round = false
 begins_book word.Root = false
 begins_book word.Look = false
 begins_book word.List = false
@@ -42,7 +39,7 @@ begins_book word.List = false
 -- all first words
 abbrev pub first_words : List FirstWord
 first_words =
-    word.Open Minutes ∷ word.Open Chain ∷ word.Open Weakest ∷ word.Redraw ∷ word.Clear ∷ word.Round ∷ word.Root ∷ word.Look ∷ word.List ∷ []
+    word.Open Minutes ∷ word.Open Chain ∷ word.Open Weakest ∷ word.Redraw ∷ word.Clear ∷ word.Root ∷ word.Look ∷ word.List ∷ []
 
 -- the first of the words listed that is spelled so
 abbrev pub spelled_so : List ℕ → List FirstWord → Option FirstWord
@@ -52,18 +49,3 @@ spelled_so name (w ∷ ws) = cond (bytes_eq name (spelling w)) (Some w) (spelled
 -- the first word that is spelled so
 abbrev pub named_by : List ℕ → Option FirstWord
 named_by name = spelled_so name first_words
-
--- whether a word is one here: a round is none where the open book is not built by rounds
-abbrev pub stands_here : Bool → FirstWord → Bool
-stands_here rounds (word.Open k) = true
-stands_here rounds word.Redraw = true
-stands_here rounds word.Clear = true
-stands_here rounds word.Round = rounds
-stands_here rounds word.Root = true
-stands_here rounds word.Look = true
-stands_here rounds word.List = true
-
--- a first word, if it is one here
-abbrev pub known_here : Bool → Option FirstWord → Option FirstWord
-known_here rounds None = None
-known_here rounds (Some w) = cond (stands_here rounds w) (Some w) None

@@ -3,7 +3,7 @@ ghost use Rattle.std.specs.Prelude.{◌≡◌};
 ghost use Rattle.orders.specs.Commands.{first_word_of, command_of, NumbersRead, read_as};
 ghost use Rattle.words.specs.Numbers.{number_of};
 ghost use Rattle.words.specs.Tokens.{word_at};
-ghost use Rattle.orders.specs.Vocabulary.{named_by, known_here};
+ghost use Rattle.orders.specs.Vocabulary.{named_by};
 
 use crate::refusals::LineRefusal;
 use crate::vocabulary::{FirstWord, Kind};
@@ -28,8 +28,6 @@ pub enum Command {
     },
     // clear the book
     Clear,
-    // lay the next round
-    Round,
     // build the next root
     Root,
     // answer a pair of sheets
@@ -50,7 +48,6 @@ impl Command {
             Command::Open(kind, _) => FirstWord::Open(kind),
             Command::Redraw { .. } => FirstWord::Redraw,
             Command::Clear => FirstWord::Clear,
-            Command::Round => FirstWord::Round,
             Command::Root => FirstWord::Root,
             Command::Look { .. } => FirstWord::Look,
             Command::List => FirstWord::List,
@@ -71,7 +68,6 @@ impl Command {
                 grade: d,
             },
             FirstWord::Clear => Command::Clear,
-            FirstWord::Round => Command::Round,
             FirstWord::Root => Command::Root,
             FirstWord::Look => Command::Look { from: a, to: b },
             FirstWord::List => Command::List,
@@ -79,23 +75,13 @@ impl Command {
     }
 }
 
-// The first word at the place, if it is one here.
-fn first_word(line: &[u8], place: Place, rounds: bool) -> Option<FirstWord>
-    ensures { result ≡ known_here rounds (named_by (word_at line.now place)) }
+// The first word at the place, if it is one.
+fn first_word(line: &[u8], place: Place) -> Option<FirstWord>
+    ensures { result ≡ named_by (word_at line.now place) }
 {
     match token_at(line, place) {
-        Token::Name(name) => here(FirstWord::named(name), rounds),
+        Token::Name(name) => FirstWord::named(name),
         Token::Number(_) => None,
-    }
-}
-
-// The word, if there is one and it is one here.
-fn here(word: Option<FirstWord>, rounds: bool) -> Option<FirstWord>
-    ensures { result ≡ known_here rounds word }
-{
-    match word {
-        Some(word) if word.stands(rounds) => Some(word),
-        _ => None,
     }
 }
 
@@ -125,19 +111,14 @@ fn numbers_at(line: &[u8], places: &[Place]) -> Result<[u32; MOST_NUMBERS], Line
     Ok(numbers)
 }
 
-// The command of the line whose words are at the places, where an opening was accepted before or not and a round is a word or not.
-pub fn read(
-    line: &[u8],
-    places: &[Place],
-    opened: bool,
-    rounds: bool,
-) -> Result<Command, LineRefusal>
-    ensures { result ≡ read_as line.now places.now opened rounds }
+// The command of the line whose words are at the places, where an opening was accepted before or not.
+pub fn read(line: &[u8], places: &[Place], opened: bool) -> Result<Command, LineRefusal>
+    ensures { result ≡ read_as line.now places.now opened }
 {
     let [first, rest @ ..] = places else {
         return Err(LineRefusal::FirstWord);
     };
-    let Some(word) = first_word(line, *first, rounds) else {
+    let Some(word) = first_word(line, *first) else {
         return Err(LineRefusal::FirstWord);
     };
     if rest.len() != word.numbers() {

@@ -1,6 +1,6 @@
 // The words that a line may begin with: how each is spelled, and how many numbers follow it.
 ghost use Rattle.std.specs.Prelude.{◌≡◌, Some};
-ghost use Rattle.orders.specs.Vocabulary.{spelling, numbers_after, begins_book, stands_here, spelled_so, named_by};
+ghost use Rattle.orders.specs.Vocabulary.{spelling, numbers_after, begins_book, spelled_so, named_by};
 ghost use Rattle.std.specs.Str.{bytes_eq};
 
 // What a book measures.
@@ -17,20 +17,18 @@ pub enum FirstWord {
     Open(Kind),
     Redraw,
     Clear,
-    Round,
     Root,
     Look,
     List,
 }
 
 // All first words.
-const ALL: [FirstWord; 9] = [
+const ALL: [FirstWord; 8] = [
     FirstWord::Open(Kind::Minutes),
     FirstWord::Open(Kind::Chain),
     FirstWord::Open(Kind::Weakest),
     FirstWord::Redraw,
     FirstWord::Clear,
-    FirstWord::Round,
     FirstWord::Root,
     FirstWord::Look,
     FirstWord::List,
@@ -48,7 +46,6 @@ impl FirstWord {
             FirstWord::Open(Kind::Weakest) => "weakest",
             FirstWord::Redraw => "redraw",
             FirstWord::Clear => "clear",
-            FirstWord::Round => "round",
             FirstWord::Root => "root",
             FirstWord::Look => "look",
             FirstWord::List => "list",
@@ -63,7 +60,7 @@ impl FirstWord {
             FirstWord::Open(_) => 1,
             FirstWord::Redraw => 4,
             FirstWord::Look => 2,
-            FirstWord::Clear | FirstWord::Round | FirstWord::Root | FirstWord::List => 0,
+            FirstWord::Clear | FirstWord::Root | FirstWord::List => 0,
         }
     }
 
@@ -72,16 +69,6 @@ impl FirstWord {
         ensures { result ≡ begins_book self }
     {
         matches!(self, FirstWord::Open(_))
-    }
-
-    // Whether the word is one here: a round is none where the open book is not built by rounds.
-    pub fn stands(self, rounds: bool) -> bool
-        ensures { result ≡ stands_here rounds self }
-    {
-        match self {
-            FirstWord::Round => rounds,
-            _ => true,
-        }
     }
 
     // The first word that is spelled so, if there is one.

@@ -1,8 +1,7 @@
 // What every priced book promises, whatever its measure: each call is a step of the rules.
-ghost use Rattle.std.specs.Prelude.{◌≡◌, Bool, true, false, Some, None, Ok, Err};
+ghost use Rattle.std.specs.Prelude.{◌≡◌, Ok, Err};
 ghost use Rattle.theory.specs.Chains.{BestOver};
-ghost use Rattle.theory.specs.Books.{View, Stepped, Guarantee, NothingFits, enter as enter-call, clear as clear-call, round as round-call, root as root-call, look as look-call, list as list-call, cleared, refused, entries_are, enter_answer, built_answer, look_answer};
-ghost use Rattle.runs.specs.Runs.{Promise};
+ghost use Rattle.theory.specs.Books.{View, Stepped, Guarantee, NothingFits, enter as enter-call, clear as clear-call, root as root-call, look as look-call, list as list-call, cleared, refused, entries_are, enter_answer, built_answer, look_answer};
 
 use measures::Measure;
 use theory::{Built, Entry, Refusal};
@@ -13,8 +12,6 @@ pub trait PricedBook {
 
     ghost view: { Self → View Self.Value };
 
-    ghost rounds: { Bool };
-
     /// Enters a redraw, empties the table and opens the book; answers the number of redraws held.
     fn enter(&mut self, from: u32, to: u32, minutes: u32, grade: u32) -> Result<u32, Refusal>
         ensures { Stepped Self.Value.Measure.meaning (view self.old) (enter-call from to minutes grade) (enter_answer result) (view self.new) };
@@ -22,14 +19,6 @@ pub trait PricedBook {
     /// Empties the table and opens the book; never refused.
     fn clear(&mut self)
         ensures { Stepped Self.Value.Measure.meaning (view self.old) clear-call cleared (view self.new) };
-
-    /// Whether the book is built by rounds too, as the books of strict measures are.
-    fn takes_rounds(&self) -> bool
-        ensures { result ≡ rounds };
-
-    /// Lays the next round where the book is built by rounds; nothing, with the book as it was, where it is not.
-    fn round_if_taken(&mut self) -> Option<Result<Built, Refusal>>
-        ensures { elim result [ Some built ↦ (rounds ≡ true) × Stepped Self.Value.Measure.meaning (view self.old) round-call (built_answer built) (view self.new) | None ↦ (rounds ≡ false) × (view self.new ≡ view self.old) ] };
 
     /// Builds the next root; refused for want of places only if no honest, right table fits.
     fn root(&mut self) -> Result<Built, Refusal>
@@ -41,9 +30,8 @@ pub trait PricedBook {
         ensures called { Stepped Self.Value.Measure.meaning (view self.now) (look-call from to) (look_answer result) (view self.now) }
         ensures best { elim result [ Ok a ↦ BestOver Self.Value.Measure.meaning (view self.now).redraws from to a | Err _ ↦ Unit {0} ] };
 
-    /// The entries of the finished table, with all that a finished book guarantees, and the promise over all runs of calls.
+    /// The entries of the finished table, with all that a finished book guarantees.
     fn list(&self) -> Result<&[Entry<Self::Value>], Refusal>
         ensures called { Stepped Self.Value.Measure.meaning (view self.now) list-call (elim result [ Ok es ↦ entries_are es.now | Err e ↦ refused e ]) (view self.now) }
-        ensures guarantee { elim result [ Ok _ ↦ Guarantee Self.Value.Measure.meaning (view self.now) | Err _ ↦ Unit {0} ] }
-        ensures promise { Promise Self.Value.Measure.meaning };
+        ensures guarantee { elim result [ Ok _ ↦ Guarantee Self.Value.Measure.meaning (view self.now) | Err _ ↦ Unit {0} ] };
 }

@@ -10,9 +10,8 @@ use Rattle.theory.specs.declared.Way.TheVariants.{Out, In}
 use Rattle.theory.specs.Measures.{Meaning, Lawful}
 use Rattle.theory.specs.Searches.{Run}
 use Rattle.theory.proofs.Growing as growing
-use Rattle.strips.specs.Strips.{Added}
-use Rattle.roots.specs.Turns.{Ready, Gathered, Both, BothGathered}
-use Rattle.strips.proofs.Adding.{added_more, added_stop}
+use Rattle.roots.specs.Turns.{Ready, Added, Gathered, Both, BothGathered}
+use Rattle.roots.proofs.Steps.{added_more, added_stop}
 
 -- blank again, and as long as before
 pub blank_again : {X : Type 0} (xs ys : List X) (n : ℕ) (b : X) → xs ≡ replicate n b → ys ≡ replicate (length xs) b → ys ≡ replicate n b

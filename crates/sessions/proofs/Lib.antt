@@ -1,1 +1,4 @@
-mod Serving
+pub mod Answering
+pub mod Cutting
+pub mod Listing
+pub mod Serving

@@ -1,6 +1,6 @@
 //! Strips of lent memory: slices of records with a count of those in use.
 
-ghost use Rattle.std.specs.Prelude.{◌≡◌, ◌+◌, ◌-◌, ◌<◌, ◌≤◌, min, true, false, [], ◌∷◌, ◌++◌, length, replicate, if◌then◌else◌, nat_lt, slice_index_or, slice_range, slice_set};
+ghost use Rattle.std.specs.Prelude.{◌≡◌, ◌+◌, ◌<◌, ◌≤◌, min, true, false, [], ◌∷◌, ◌++◌, length, replicate, if◌then◌else◌, nat_lt, slice_index_or, slice_set};
 ghost use Rattle.strips.specs.Strips.{Held, used, wiped};
 
 /// The record at a place, or `otherwise` past the end.
@@ -25,17 +25,6 @@ pub fn wipe<T: Copy>(xs: &mut [T], from: usize, blank: T)
 {
     for i in from..xs.len() {
         xs[i] = blank;
-    }
-}
-
-/// The records from one place up to another; nothing if there is no such part.
-pub fn part<T>(xs: &[T], from: usize, to: usize) -> &[T]
-    ensures { from ≤ to → to ≤ length xs.now → result.now ≡ slice_range xs.now from to }
-{
-    if from <= to && to <= xs.len() {
-        &xs[from..to]
-    } else {
-        &xs[0..0]
     }
 }
 
@@ -155,5 +144,33 @@ impl Drop for Marks<'_> {
     {
         wipe(self.cells, 0, 0);
         let Marks { cells: _ } = self;
+    }
+}
+
+#[cfg(test)]
+mod tests {
+    use super::*;
+
+    // A function that marks two bytes, and may leave after the first.
+    fn kernel(marks: &mut [u8], early: bool) -> Result<u8, u8>
+        ensures { marks.new ≡ replicate (length marks.old) 0 }
+    {
+        let guard = Marks { cells: marks };
+        put(guard.cells, 0, 1);
+        if early {
+            return Err(1);
+        }
+        put(guard.cells, 1, 1);
+        Ok(at(guard.cells, 1, 0))
+    }
+
+    // Every byte is zero again after an early return and after a late one.
+    #[test]
+    fn marks_are_cleared_on_both_ways(rt: HostRuntime) {
+        let mut marks = [7, 7, 7];
+        assert_eq!(rt; kernel(&mut marks, true), Err(1));
+        assert_eq!(rt; marks, [0, 0, 0]);
+        assert_eq!(rt; kernel(&mut marks, false), Ok(1));
+        assert_eq!(rt; marks, [0, 0, 0]);
     }
 }

@@ -253,7 +253,7 @@ list_answer (Err e) = refused e
 -- where a book stands says what its entries are
 abbrev pub Stands : {V : Type 0} → Meaning V → ℕ → List Redraw → List (Entry V) → Phase → Type 0
 Stands m n rs es phases.TheVariants.Open = es ≡ []
-Stands m n rs es (phases.TheVariants.Rounds k) = (1 ≤ k) × (k < n) × (es ≡ after_rounds m n rs k)
+Stands m n rs es (phases.TheVariants.Rounds k) = (1 ≤ k) × (es ≡ after_rounds m n rs k)
 Stands m n rs es (phases.TheVariants.Roots r) = (1 ≤ r) × (r < n) × (es ≡ listed m n (rooted m r (best m n rs)))
 Stands m n rs es phases.TheVariants.Finished = es ≡ listed m n (finished m (best m n rs))
 

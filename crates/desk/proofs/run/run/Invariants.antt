@@ -1,5 +1,5 @@
 use Rattle.std.proofs.Common.{ℕ, List, [], length, string_bytes}
-use Rattle.lines.specs.InputLines.{ahead}
+use Rattle.sessions.specs.InputLines.{ahead}
 use Rattle.desk.specs.Desk.{Session}
 use Rattle.desk.proofs.run.run.Given as goal
 

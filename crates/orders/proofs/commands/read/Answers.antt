@@ -8,18 +8,18 @@ returns-in-err-numbers c =
     let p = err_from_is_err_and c.from-residual.result c.from-residual.ensures.1 in
     let f = c.in-err-numbers.ensures in
     let some : 0 < length c.args.places.now = omega (arith, ltb-false) in
-    p.1 ∙ (ap Err (p.2 ∙ f.2) ∙ sym (faulty c.args.line.now c.args.places.now _ c.args.opened c.args.rounds c.in-Some.word some c.in-Some.ensures (c.if-rest-numbers.false ∙ c.numbers.ensures) f.0 f.1))
+    p.1 ∙ (ap Err (p.2 ∙ f.2) ∙ sym (faulty c.args.line.now c.args.places.now _ c.args.opened c.in-Some.word some c.in-Some.ensures (c.if-rest-numbers.false ∙ c.numbers.ensures) f.0 f.1))
 
 pub returns-then-opened-opens : goal.returns-then-opened-opens
 returns-then-opened-opens c =
     let some : 0 < length c.args.places.now = omega (arith, ltb-false) in
-    sym (unturned c.args.line.now c.args.places.now _ c.args.opened c.args.rounds c.in-Some.word some c.in-Some.ensures (c.if-rest-numbers.false ∙ c.numbers.ensures) c.in-ok-numbers.ensures.0
+    sym (unturned c.args.line.now c.args.places.now _ c.args.opened c.in-Some.word some c.in-Some.ensures (c.if-rest-numbers.false ∙ c.numbers.ensures) c.in-ok-numbers.ensures.0
     (sym (turn_is c.args.opened _ c.in-Some.word c.opens.ensures) ∙ c.if-opened-opens.true))
 
 pub returns : goal.returns
 returns c =
     let some : 0 < length c.args.places.now = omega (arith, ltb-false) in
     ap Ok c.with.ensures
-    ∙ sym (commanded c.args.line.now c.args.places.now _ c.args.opened c.args.rounds c.in-Some.word some c.in-Some.ensures (c.if-rest-numbers.false ∙ c.numbers.ensures) c.in-ok-numbers.ensures.0 c.in-ok-numbers.numbers
+    ∙ sym (commanded c.args.line.now c.args.places.now _ c.args.opened c.in-Some.word some c.in-Some.ensures (c.if-rest-numbers.false ∙ c.numbers.ensures) c.in-ok-numbers.ensures.0 c.in-ok-numbers.numbers
     (sym (turn_is c.args.opened _ c.in-Some.word c.opens.ensures) ∙ c.if-opened-opens.false)
     c.in-ok-numbers.ensures.1)

@@ -1,6 +1,6 @@
 use Rattle.std.proofs.Common.{sym, refl, ap, ◌∙◌, rules}
 use Rattle.std.proofs.lemmas.Bool.{true≢false, false≢true}
-use Rattle.book.proofs.Putting.{Worked, buildable, root_put_in, root_left_out}
+use Rattle.book.proofs.NextRoots.{buildable, put_in_taken, put_in_refused}
 use Rattle.book.proofs.book.Book.put_in.Goals as goal
 
 pub returns-in-Some : goal.returns-in-Some
@@ -8,10 +8,8 @@ returns-in-Some g c = record {
   taken = λ _ K N.
       let m = g.M.Measure.meaning in
       let L = g.met.M.Measure.lawful in
-      let B = buildable m c.args.self.now K c.args.root N c.items.result.now c.items.ensures in
-      root_put_in m c.args.self.now _ K
-      (record { sheets_same = refl; phase_same = refl; register_same = refl; redraws_same = refl; unused_same = (refl, refl, refl); places_same = c.grow-grown.ensures.places; spare_same = c.grow-grown.ensures.spare L B; work_blank = c.grow-grown.ensures.work; marks_zero = c.grow-grown.ensures.marks })
-      c.args.root c.items.result.now c.items.ensures c.args.self.now.table.cells.now c.in-Some.entries refl (c.in-Some.ensures.built L B);
+      let B = buildable m L c.args.self.now K c.args.root N c.items.result.now c.items.ensures in
+      put_in_taken m L c.args.self.now _ K c.args.root N refl refl refl refl c.grow-grown.ensures.places (c.grow-grown.ensures.spare L B) c.grow-grown.ensures.work c.grow-grown.ensures.marks c.items.result.now c.items.ensures c.args.self.now.table.cells.now c.in-Some.entries refl (c.in-Some.ensures.built L B);
   refused = λ e. absurd (true≢false e);
   slices = search rules;
 }
@@ -22,9 +20,7 @@ returns-in-None g c = record {
   refused = λ _ K N.
       let m = g.M.Measure.meaning in
       let L = g.met.M.Measure.lawful in
-      let B = buildable m c.args.self.now K c.args.root N c.items.result.now c.items.ensures in
-      root_left_out m c.args.self.now _ K
-      (record { sheets_same = refl; phase_same = refl; register_same = refl; redraws_same = refl; unused_same = (refl, refl, refl); places_same = c.grow-grown.ensures.places; spare_same = c.grow-grown.ensures.spare L B; work_blank = c.grow-grown.ensures.work; marks_zero = c.grow-grown.ensures.marks })
-      c.args.root c.items.result.now c.items.ensures refl (c.in-None.ensures.built L B);
+      let B = buildable m L c.args.self.now K c.args.root N c.items.result.now c.items.ensures in
+      put_in_refused m L c.args.self.now _ K c.args.root N refl refl refl refl c.grow-grown.ensures.places (c.grow-grown.ensures.spare L B) c.grow-grown.ensures.work c.grow-grown.ensures.marks c.items.result.now c.items.ensures refl (c.in-None.ensures.built L B);
   slices = search rules;
 }

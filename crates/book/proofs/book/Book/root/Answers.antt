@@ -1,13 +1,12 @@
-use Rattle.std.proofs.Common.{◌≡◌, ℕ, suc, length, Some, Ok, Err, Option, Result, sym, refl, ap, ◌∙◌, subst, arith, rules}
+use Rattle.std.proofs.Common.{◌≡◌, ℕ, Some, Ok, Err, Option, Result, sym, refl, ap, ◌∙◌, subst, arith, rules}
 use Rattle.std.proofs.lemmas.Result.{err_from_is_err_and}
-use Rattle.theory.specs.Books.{Stepped, root, root_entries, built_answer}
+use Rattle.theory.specs.Books.{Stepped, root, built_answer}
 use Rattle.theory.specs.declared.Built.{Built}
 use Rattle.theory.specs.declared.Refusal.{Refusal}
 use Rattle.theory.specs.declared.Refusal.TheVariants.{WantOfPlaces}
 use Rattle.theory.proofs.Guarantees.{nothing_fits}
-use Rattle.runs.proofs.Rooting.{wanting}
 use Rattle.book.specs.Views.{view}
-use Rattle.book.proofs.Turns.{step_refused, turn_wanting, too_few_places, root_taken, slices_on}
+use Rattle.book.proofs.NextRoots.{root_turned, root_wants, root_taken, wanting, slices_on}
 use Rattle.book.proofs.book.Book.root.Goals as goal
 
 err_same : (a b : Refusal) → ◌≡◌ {A = Result Built Refusal} (Err a) (Err b) → a ≡ b
@@ -23,7 +22,7 @@ returns-in-err-root g c =
     record {
       called = λ K. (
         subst (λ x. Stepped m (view c.args.self.now) root (built_answer x) (view c.args.self.now)) (sym p.1)
-            (step_refused m g.met.M.Measure.lawful (view c.args.self.now) (view c.args.self.now) root p.0 tt (c.in-err-root.ensures ∙ ap {B = Option Refusal} (λ (e : Refusal). Some e) (sym p.2)) refl),
+            (root_turned m g.met.M.Measure.lawful (view c.args.self.now) p.0 (c.in-err-root.ensures ∙ ap {B = Option Refusal} (λ (e : Refusal). Some e) (sym p.2))),
         K,
       );
       wanting = λ e K. wanting m g.met.M.Measure.lawful (view c.args.self.now) K.sound c.args.self.now.phase
@@ -40,11 +39,11 @@ returns-then-not-put-in g c =
       called = λ K.
           let N = c.in-ok-root.ensures K in
           let O = c.put-in.ensures.refused c.if-not-put-in.true K N in
-          turn_wanting m L c.args.self.now K c.put-in.new.self root tt (N.only_places ∙ too_few_places v (length (root_entries m v (suc c.in-ok-root.root))) O.0) O.1;
+          (root_wants m L v K.sound c.in-ok-root.root N (view c.put-in.new.self) O.wanting O.seen, O.kept);
       wanting = λ _ K.
           let N = c.in-ok-root.ensures K in
           let O = c.put-in.ensures.refused c.if-not-put-in.true K N in
-          nothing_fits m L v K.sound _ O.0;
+          nothing_fits m L v K.sound _ O.wanting;
       slices = search rules;
     }
 
@@ -52,11 +51,13 @@ pub returns : goal.returns
 returns g c =
     let m = g.M.Measure.meaning in
     let L = g.met.M.Measure.lawful in
+    let v = view c.args.self.now in
     record {
       called = λ K.
           let N = c.in-ok-root.ensures K in
           let P = c.put-in.ensures.taken c.if-not-put-in.false K N in
-          root_taken m L c.args.self.now K _ c.put-in.new.self c.conclude.new.self P c.in-ok-root.root N refl c.conclude.result.number c.conclude.ensures.number c.conclude.result.progress c.conclude.ensures.progress c.conclude.ensures.moved;
+          let o = c.conclude.ensures.concluded v K.sound N P in
+          (root_taken m L v K.sound c.in-ok-root.root N _ (view c.conclude.new.self) P.enough o.0 o.1, o.2);
       wanting = λ e. absurd (ok_err c.conclude.result WantOfPlaces e);
       slices = slices_on c.args.self.now c.put-in.new.self c.conclude.new.self c.put-in.ensures.slices c.conclude.ensures.slices;
     }

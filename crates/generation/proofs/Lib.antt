@@ -1,4 +1,0 @@
-pub mod Offering
-pub mod SheetLists
-pub mod Generated
-pub mod LaidRows

@@ -1,0 +1,54 @@
+// The making of a book of chains, and the calls on it.
+ghost use Rattle.std.specs.Prelude.{◌≡◌, length};
+ghost use Rattle.theory.specs.Books.{new_book};
+ghost use Rattle.book.specs.Views.{view};
+ghost use Rattle.book.specs.Makings.{MadeOver};
+
+use crate::chain_book::ChainBook;
+use book::Checked;
+use measures::Chain;
+use priced::PricedBook;
+use theory::{Built, Entry, Refusal};
+
+impl<'r, 't, 's, 'w, 'm> ChainBook<'r, 't, 's, 'w, 'm> {
+    /// Makes the book over what was checked: open, with no redraws and no entries.
+    pub fn make(checked: Checked<'r, 't, 's, 'w, 'm, Chain>) -> ChainBook<'r, 't, 's, 'w, 'm>
+        ensures new { view result.book ≡ new_book checked.entry.sheets (length checked.entry.register.now) (length checked.entry.table.now) }
+        ensures slices { MadeOver checked.entry result.book }
+    {
+        let book = checked.make();
+        ChainBook { book }
+    }
+}
+
+/// A book of chains is a priced book.
+impl<'r, 't, 's, 'w, 'm> PricedBook for ChainBook<'r, 't, 's, 'w, 'm> {
+    type Value = Chain;
+
+    ghost view = { λ b. view b.book };
+
+    /// Enters a redraw.
+    fn enter(&mut self, from: u32, to: u32, minutes: u32, grade: u32) -> Result<u32, Refusal> {
+        self.book.enter(from, to, minutes, grade)
+    }
+
+    /// Empties the table and opens the book.
+    fn clear(&mut self) {
+        self.book.clear()
+    }
+
+    /// Builds the next root.
+    fn root(&mut self) -> Result<Built, Refusal> {
+        self.book.root()
+    }
+
+    /// The best measure from one sheet to another.
+    fn look(&self, from: u32, to: u32) -> Result<Chain, Refusal> {
+        self.book.look(from, to)
+    }
+
+    /// The entries of the finished table.
+    fn list(&self) -> Result<&[Entry<Chain>], Refusal> {
+        self.book.list()
+    }
+}

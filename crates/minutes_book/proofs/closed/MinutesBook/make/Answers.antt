@@ -1,5 +1,0 @@
-use borrow.Author.Rules.{rules}
-use Rattle.minutes_book.proofs.closed.MinutesBook.make.Goals as goal
-
-pub invariant-of-result : goal.invariant-of-result
-invariant-of-result c = let k = ∣ c.make-book.ensures.kept ∣₁ in search rules

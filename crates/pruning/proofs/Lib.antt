@@ -1,2 +1,0 @@
-mod Covering
-mod Keeping
