@@ -1,4 +1,6 @@
 // The lines that are printed. Each function appends one line to the text, or fails for want of memory.
+#![tactic(auto)]
+
 ghost use Rattle.std.specs.Prelude.{◌≡◌, ◌++◌, is_ok, string_bytes, OnOk};
 ghost use Rattle.answers.specs.Printed.{layer_text, progress_text, refused_line, opening_line, redraw_line, clear_line, root_line, look_line, entry_line};
 ghost use Rattle.theory.specs.Refusals.{refusal_number};

@@ -1,2 +1,4 @@
 // The desk: an order sheet goes in whole, and what is printed for it comes out.
+#![tactic(auto)]
+
 pub mod run;

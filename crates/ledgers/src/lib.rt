@@ -1,4 +1,5 @@
 // Books whose promises have no premise: one closed type for each of the office's measures.
+#![tactic(auto)]
 
 mod chain_book;
 mod chain_calls;

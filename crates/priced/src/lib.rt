@@ -1,4 +1,6 @@
 // What every priced book promises, whatever its measure: each call is a step of the rules.
+#![tactic(auto)]
+
 ghost use Rattle.std.specs.Prelude.{◌≡◌, Ok, Err};
 ghost use Rattle.theory.specs.Chains.{BestOver};
 ghost use Rattle.theory.specs.Books.{View, Stepped, Guarantee, NothingFits, enter as enter-call, clear as clear-call, root as root-call, look as look-call, list as list-call, cleared, refused, entries_are, enter_answer, built_answer, look_answer};

@@ -1,4 +1,5 @@
 // Sessions of the line program, each held to what it must print.
+#![tactic(auto)]
 
 #[cfg(test)]
 mod tests {
