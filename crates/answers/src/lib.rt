@@ -1,13 +1,12 @@
 // The lines that are printed. Each function appends one line to the text, or fails for want of memory.
 #![tactic(auto)]
 
-ghost use Rattle.std.specs.Prelude.{◌≡◌, ◌++◌, is_ok, string_bytes, OnOk};
+ghost use Rattle.std.specs.Prelude.{◌≡◌, ◌++◌, string_bytes, OnOk};
 ghost use Rattle.answers.specs.Printed.{layer_text, progress_text, refused_line, opening_line, redraw_line, clear_line, root_line, look_line, entry_line};
 ghost use Rattle.theory.specs.Refusals.{refusal_number};
 
 use orders::vocabulary::{FirstWord, Kind};
 use std::alloc::AllocError;
-use std::fmt;
 use theory::{Progress, Refusal};
 
 // Who refuses a line.
@@ -63,16 +62,6 @@ pub fn refusal_code(refusal: Refusal) -> u32
     }
 }
 
-// A text fails only for want of memory.
-fn written(res: fmt::Result) -> Result<(), AllocError>
-    ensures { is_ok result ≡ is_ok res }
-{
-    match res {
-        Ok(()) => Ok(()),
-        Err(_) => Err(AllocError),
-    }
-}
-
 // A refusal of the line with this number, counted from 1: its layer, its first faulty word and its number.
 pub fn refused(
     out: &mut String,
@@ -84,7 +73,7 @@ pub fn refused(
     ensures { OnOk result (string_bytes out.new ≡ string_bytes out.old ++ refused_line line layer word number) }
 {
     let layer = layer.text();
-    written(writeln!(out, "refused {line} {layer} {word} {number}"))
+    writeln!(out, "refused {line} {layer} {word} {number}")
 }
 
 // An opening of a book with so many sheets.
@@ -92,7 +81,7 @@ pub fn opening(out: &mut String, kind: Kind, sheets: u32) -> Result<(), AllocErr
     ensures { OnOk result (string_bytes out.new ≡ string_bytes out.old ++ opening_line kind sheets) }
 {
     let word = FirstWord::Open(kind).text();
-    written(writeln!(out, "{word} {sheets}"))
+    writeln!(out, "{word} {sheets}")
 }
 
 // A redraw that was entered, with the number of redraws held.
@@ -100,7 +89,7 @@ pub fn redraw(out: &mut String, held: usize) -> Result<(), AllocError>
     ensures { OnOk result (string_bytes out.new ≡ string_bytes out.old ++ redraw_line held) }
 {
     let word = FirstWord::Redraw.text();
-    written(writeln!(out, "{word} {held}"))
+    writeln!(out, "{word} {held}")
 }
 
 // A clear.
@@ -108,7 +97,7 @@ pub fn clear(out: &mut String) -> Result<(), AllocError>
     ensures { OnOk result (string_bytes out.new ≡ string_bytes out.old ++ clear_line) }
 {
     let word = FirstWord::Clear.text();
-    written(writeln!(out, "{word}"))
+    writeln!(out, "{word}")
 }
 
 // A root that was built, with the builder's number and how far the book is built.
@@ -117,7 +106,7 @@ pub fn root(out: &mut String, builder: usize, progress: Progress) -> Result<(), 
 {
     let word = FirstWord::Root.text();
     let progress = progress_text(progress);
-    written(writeln!(out, "{word} {builder} {progress}"))
+    writeln!(out, "{word} {builder} {progress}")
 }
 
 // The answer to a look, by its value's text.
@@ -125,14 +114,14 @@ pub fn look(out: &mut String, value: &str) -> Result<(), AllocError>
     ensures { OnOk result (string_bytes out.new ≡ string_bytes out.old ++ look_line value.now) }
 {
     let word = FirstWord::Look.text();
-    written(writeln!(out, "{word} {value}"))
+    writeln!(out, "{word} {value}")
 }
 
 // An entry of the table, by its value's text.
 pub fn entry(out: &mut String, from: u32, to: u32, value: &str) -> Result<(), AllocError>
     ensures { OnOk result (string_bytes out.new ≡ string_bytes out.old ++ entry_line from to value.now) }
 {
-    written(writeln!(out, "entry {from} {to} {value}"))
+    writeln!(out, "entry {from} {to} {value}")
 }
 
 #[cfg(test)]

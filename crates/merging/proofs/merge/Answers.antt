@@ -3,22 +3,22 @@ use Rattle.std.proofs.Common.{◌+◌, ◌-◌, ◌<◌, length, inl, inr, arith
 use borrow.Author.Tests.{true-ltb, false-ltb}
 use Rattle.merging.proofs.Halfway.{halfway_none, halfway_first, halfway_second, halfway_ends}
 use Rattle.merging.proofs.merge.Goals as goal
-use Rattle.merging.proofs.merge.Goals.{else-i-gt0-via-then-i-gt0+else-stands-after, else-i-gt0-via-else-i-gt0}
+use Rattle.merging.proofs.merge.Goals.{else-i-gt0-via-then-i-gt0+else-stands_after, else-i-gt0-via-else-i-gt0}
 
 pub loop-j-init : goal.loop-j-init
 loop-j-init g c = halfway_ends _ _ _ _ _ _ (halfway_none c.args.table.now c.args.count c.args.run.now (omega arith))
 
-pub offset-bounds-table-i : goal.offset-bounds-table-i
-offset-bounds-table-i g c = let h : c.loop-j.i - 1 < length c.args.table.now = omega arith in search rules
+pub offset_bounds-table-i : goal.offset_bounds-table-i
+offset_bounds-table-i g c = let h : c.loop-j.i - 1 < length c.args.table.now = omega arith in search rules
 
-pub offset-bounds-table-i-then-stands_after : goal.offset-bounds-table-i-then-stands_after
-offset-bounds-table-i-then-stands_after g c = let h : c.loop-j.i - 1 < length c.args.table.now = omega arith in search rules
+pub offset_bounds-table-i-then-stands_after : goal.offset_bounds-table-i-then-stands_after
+offset_bounds-table-i-then-stands_after g c = let h : c.loop-j.i - 1 < length c.args.table.now = omega arith in search rules
 
-pub offset-bounds-table-i-then-stands_after-2 : goal.offset-bounds-table-i-then-stands_after-2
-offset-bounds-table-i-then-stands_after-2 g c = let h : c.loop-j.i + c.loop-j.j - 1 < length c.args.table.now = omega arith in search rules
+pub offset_bounds-table-i-then-stands_after-2 : goal.offset_bounds-table-i-then-stands_after-2
+offset_bounds-table-i-then-stands_after-2 g c = let h : c.loop-j.i + c.loop-j.j - 1 < length c.args.table.now = omega arith in search rules
 
-pub offset-bounds-table-i-else-i-gt0 : goal.offset-bounds-table-i-else-i-gt0
-offset-bounds-table-i-else-i-gt0 g c = let h : c.loop-j.i + c.loop-j.j - 1 < length c.args.table.now = omega arith in search rules
+pub offset_bounds-table-i-else-i-gt0 : goal.offset_bounds-table-i-else-i-gt0
+offset_bounds-table-i-else-i-gt0 g c = let h : c.loop-j.i + c.loop-j.j - 1 < length c.args.table.now = omega arith in search rules
 
 pub loop-j-preserved-then-stands_after : goal.loop-j-preserved-then-stands_after
 loop-j-preserved-then-stands_after g c =

@@ -5,7 +5,7 @@ use Rattle.orders.proofs.commands.read.Goals as goal
 
 pub returns-in_err-numbers : goal.returns-in_err-numbers
 returns-in_err-numbers c =
-    let p = err_from_is_err_and c.from-residual.result c.from-residual.ensures.1 in
+    let p = err_from_is_err_and c.from_residual.result c.from_residual.ensures.1 in
     let f = c.in_err-numbers.ensures in
     let some : 0 < length c.args.places.now = omega (arith, ltb-false) in
     p.1 ∙ (ap Err (p.2 ∙ f.2) ∙ sym (faulty c.args.line.now c.args.places.now _ c.args.opened c.in-Some.word some c.in-Some.ensures (c.if-rest-numbers.false ∙ c.numbers.ensures) f.0 f.1))

@@ -3,8 +3,8 @@ use Rattle.theory.specs.Tables.{entry}
 use Rattle.roots.proofs.Putting.{ready, spare_wiped, too_long, too_many, middle_within, spare_blanked, put_in}
 use Rattle.roots.proofs.builder.grow.Goals as goal
 
-pub returns-in-default : goal.returns-in-default
-returns-in-default g c =
+pub returns-in_default : goal.returns-in_default
+returns-in_default g c =
     let m = g.M.Measure.meaning in
     record {
       places = refl;
@@ -13,7 +13,7 @@ returns-in-default g c =
       spare = λ L B. spare_wiped m L c.args.sheets c.args.register.now c.args.root (length c.args.table.now) c.args.count c.args.table.now c.args.spare.now c.args.work.now c.args.marks.now B c.gather_both.new.spare _ c.gather_both.ensures.places (ap (entry 0 0) c.none.ensures) c.wipe.new.xs c.wipe.ensures;
       built = λ L B.
           let R = ready m L c.args.sheets c.args.register.now c.args.root (length c.args.table.now) c.args.count c.args.table.now c.args.spare.now c.args.work.now c.args.marks.now B c.part.result.now (c.part.ensures (omega arith) B.count_within) in
-          let o = c.in-default.ensures.found L R B.work_blank B.marks_zero in
+          let o = c.in_default.ensures.found L R B.work_blank B.marks_zero in
           (too_long m L c.args.sheets c.args.register.now c.args.root (length c.args.table.now) c.args.count c.args.table.now c.args.spare.now c.args.work.now c.args.marks.now B o.0 o.1 o.2 o.3 o.4, refl);
     }
 

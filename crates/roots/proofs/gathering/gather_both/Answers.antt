@@ -10,7 +10,7 @@ returns-in_err-outs g c = record {
   marks = c.gather.ensures.marks;
   found = λ L R ew em.
       let m = g.M.Measure.meaning in
-      subst (λ x. BothGathered m c.args.sheets c.args.register.now c.args.root c.args.spare.now x c.gather.new.spare) (sym c.from-residual.ensures)
+      subst (λ x. BothGathered m c.args.sheets c.args.register.now c.args.root c.args.spare.now x c.gather.new.spare) (sym c.from_residual.ensures)
       (first_stops m L c.args.sheets c.args.register.now c.args.table.now c.args.root R c.args.spare.now c.gather.new.spare (c.in_err-outs.ensures.found L R ew em (omega arith)));
 }
 
@@ -25,7 +25,7 @@ returns-in_err-ins g c =
           let o = c.in_ok-outs.ensures.found L R ew em (omega arith) in
           let k : c.in_ok-outs.outs ≤ length c.gather.new.spare = omega (arith, o.2.1, c.gather.ensures.places) in
           let i = c.in_err-ins.ensures.found L R (blank_again c.args.work.now c.gather.new.work c.args.sheets m.none ew c.gather.ensures.work) (blank_again c.args.marks.now c.gather.new.marks c.args.sheets 0 em c.gather.ensures.marks) k in
-          subst (λ x. BothGathered m c.args.sheets c.args.register.now c.args.root c.args.spare.now x c.gather-2.new.spare) (sym c.from-residual-in_err-ins.ensures)
+          subst (λ x. BothGathered m c.args.sheets c.args.register.now c.args.root c.args.spare.now x c.gather-2.new.spare) (sym c.from_residual-in_err-ins.ensures)
           (second_stops m L c.args.sheets c.args.register.now c.args.table.now c.args.root R c.args.spare.now c.gather.new.spare c.gather-2.new.spare c.in_ok-outs.outs c.gather.ensures.places o i);
     }
 

@@ -18,7 +18,7 @@ ok_err a b e = let z : ◌≡◌ {A = ℕ} 0 1 = cc in omega arith
 pub returns-in_err-root : goal.returns-in_err-root
 returns-in_err-root g c =
     let m = g.M.Measure.meaning in
-    let p = err_from_is_err_and c.from-residual.result c.from-residual.ensures.1 in
+    let p = err_from_is_err_and c.from_residual.result c.from_residual.ensures.1 in
     record {
       called = λ K. (
         subst (λ x. Stepped m (view c.args.self.now) root (built_answer x) (view c.args.self.now)) (sym p.1)
