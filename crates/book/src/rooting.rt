@@ -1,6 +1,6 @@
 // Root: the builder's turn that adds the entries of the next root.
 ghost use Rattle.std.specs.Prelude.{◌≡◌, min, true, false, Some, Ok, Err};
-ghost use Rattle.theory.specs.Books.{View, Sound, root as root-call, built, taken_answer, taken_view, built_answer, root_refusal, progress, NothingFits};
+ghost use Rattle.theory.specs.Books.{View, Sound, root as root_call, built, taken_answer, taken_view, built_answer, root_refusal, progress, NothingFits};
 ghost use Rattle.book.specs.Views.{view, Kept, Called, SameSlices};
 ghost use Rattle.book.specs.Rooting.{NextRoot, PutIn, LeftOut};
 
@@ -75,7 +75,7 @@ impl<'r, 't, 's, 'w, 'm, M: Measure> Book<'r, 't, 's, 'w, 'm, M> {
 
     /// Moves the phase on after the root, and answers how many roots are done and whether the book is finished.
     fn conclude(&mut self, root: u16) -> Built
-        ensures concluded { (v : View M) → Sound M.Measure.meaning v → NextRoot M.Measure.meaning v root → PutIn M.Measure.meaning v root self.old → (built result.number result.progress ≡ taken_answer M.Measure.meaning v root-call) × (view self.new ≡ taken_view M.Measure.meaning v root-call) × Kept M.Measure.meaning self.new }
+        ensures concluded { (v : View M) → Sound M.Measure.meaning v → NextRoot M.Measure.meaning v root → PutIn M.Measure.meaning v root self.old → (built result.number result.progress ≡ taken_answer M.Measure.meaning v root_call) × (view self.new ≡ taken_view M.Measure.meaning v root_call) × Kept M.Measure.meaning self.new }
         ensures slices { SameSlices self.old self.new }
     {
         let number = root as u32 + 1;
@@ -90,7 +90,7 @@ impl<'r, 't, 's, 'w, 'm, M: Measure> Book<'r, 't, 's, 'w, 'm, M> {
     /// Builds the next root, from sheet 0 on: afterwards the table is every finished entry whose senior sheet is the root or lower.
     /// Answers how many roots are done and whether the book is finished.
     pub fn root(&mut self) -> Result<Built, Refusal>
-        ensures called { Called M.Measure.meaning self.old root-call (built_answer result) self.new }
+        ensures called { Called M.Measure.meaning self.old root_call (built_answer result) self.new }
         ensures wanting { result ≡ Err Refusal.WantOfPlaces → Kept M.Measure.meaning self.old → NothingFits M.Measure.meaning (view self.old) }
         ensures slices { SameSlices self.old self.new }
     {

@@ -3,7 +3,7 @@
 
 ghost use Rattle.std.specs.Prelude.{◌≡◌, Ok, Err};
 ghost use Rattle.theory.specs.Chains.{BestOver};
-ghost use Rattle.theory.specs.Books.{View, Stepped, Guarantee, NothingFits, enter as enter-call, clear as clear-call, root as root-call, look as look-call, list as list-call, cleared, refused, entries_are, enter_answer, built_answer, look_answer};
+ghost use Rattle.theory.specs.Books.{View, Stepped, Guarantee, NothingFits, enter as enter_call, clear as clear_call, root as root_call, look as look_call, list as list_call, cleared, refused, entries_are, enter_answer, built_answer, look_answer};
 
 use measures::Measure;
 use theory::{Built, Entry, Refusal};
@@ -16,24 +16,24 @@ pub trait PricedBook {
 
     /// Enters a redraw, empties the table and opens the book; answers the number of redraws held.
     fn enter(&mut self, from: u32, to: u32, minutes: u32, grade: u32) -> Result<u32, Refusal>
-        ensures { Stepped Self.Value.Measure.meaning (view self.old) (enter-call from to minutes grade) (enter_answer result) (view self.new) };
+        ensures { Stepped Self.Value.Measure.meaning (view self.old) (enter_call from to minutes grade) (enter_answer result) (view self.new) };
 
     /// Empties the table and opens the book; never refused.
     fn clear(&mut self)
-        ensures { Stepped Self.Value.Measure.meaning (view self.old) clear-call cleared (view self.new) };
+        ensures { Stepped Self.Value.Measure.meaning (view self.old) clear_call cleared (view self.new) };
 
     /// Builds the next root; refused for want of places only if no honest, right table fits.
     fn root(&mut self) -> Result<Built, Refusal>
-        ensures called { Stepped Self.Value.Measure.meaning (view self.old) root-call (built_answer result) (view self.new) }
+        ensures called { Stepped Self.Value.Measure.meaning (view self.old) root_call (built_answer result) (view self.new) }
         ensures wanting { result ≡ Err Refusal.WantOfPlaces → NothingFits Self.Value.Measure.meaning (view self.old) };
 
     /// The best measure from one sheet to another, over all chains of the redraws held.
     fn look(&self, from: u32, to: u32) -> Result<Self::Value, Refusal>
-        ensures called { Stepped Self.Value.Measure.meaning (view self.now) (look-call from to) (look_answer result) (view self.now) }
+        ensures called { Stepped Self.Value.Measure.meaning (view self.now) (look_call from to) (look_answer result) (view self.now) }
         ensures best { elim result [ Ok a ↦ BestOver Self.Value.Measure.meaning (view self.now).redraws from to a | Err _ ↦ Unit {0} ] };
 
     /// The entries of the finished table, with all that a finished book guarantees.
     fn list(&self) -> Result<&[Entry<Self::Value>], Refusal>
-        ensures called { Stepped Self.Value.Measure.meaning (view self.now) list-call (elim result [ Ok es ↦ entries_are es.now | Err e ↦ refused e ]) (view self.now) }
+        ensures called { Stepped Self.Value.Measure.meaning (view self.now) list_call (elim result [ Ok es ↦ entries_are es.now | Err e ↦ refused e ]) (view self.now) }
         ensures guarantee { elim result [ Ok _ ↦ Guarantee Self.Value.Measure.meaning (view self.now) | Err _ ↦ Unit {0} ] };
 }

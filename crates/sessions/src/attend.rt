@@ -3,7 +3,7 @@ ghost use Rattle.std.specs.Prelude.{◌≡◌, ◌++◌, string_bytes, OnOk};
 ghost use Rattle.answers.specs.Printed.{refused_line, entry_line};
 ghost use Rattle.answers.specs.declared.Layer.TheVariants as layers;
 ghost use Rattle.sessions.specs.Attending.{Told, ToldAs, entries_text, answer_text, printed, attended};
-ghost use Rattle.theory.specs.Books.{answered, moved, enter as enter-call, clear as clear-call, root as root-call, look as look-call, list as list-call};
+ghost use Rattle.theory.specs.Books.{answered, moved, enter as enter_call, clear as clear_call, root as root_call, look as look_call, list as list_call};
 ghost use Rattle.theory.specs.Refusals.{refusal_number};
 
 use answers::{Layer, refusal_code};
@@ -30,8 +30,8 @@ fn enter<B: PricedBook>(
     grade: u32,
     out: &mut String,
 ) -> Result<(), AllocError>
-    ensures moves { view book.new ≡ moved Value-as-Measure.meaning (view book.old) (enter-call from to minutes grade) }
-    ensures tells { OnOk result (Told (string_bytes out.old) (λ text. answer_text text number (answered Value-as-Measure.meaning (view book.old) (enter-call from to minutes grade))) (string_bytes out.new)) }
+    ensures moves { B.view book.new ≡ moved B.Value.Measure.meaning (B.view book.old) (enter_call from to minutes grade) }
+    ensures tells { OnOk result (Told (string_bytes out.old) (λ text. answer_text text number (answered B.Value.Measure.meaning (B.view book.old) (enter_call from to minutes grade))) (string_bytes out.new)) }
 {
     match book.enter(from, to, minutes, grade) {
         Ok(held) => answers::redraw(out, held as usize),
@@ -41,8 +41,8 @@ fn enter<B: PricedBook>(
 
 // Clears the book.
 fn clear<B: PricedBook>(book: &mut B, number: usize, out: &mut String) -> Result<(), AllocError>
-    ensures moves { view book.new ≡ moved Value-as-Measure.meaning (view book.old) clear-call }
-    ensures tells { OnOk result (Told (string_bytes out.old) (λ text. answer_text text number (answered Value-as-Measure.meaning (view book.old) clear-call)) (string_bytes out.new)) }
+    ensures moves { B.view book.new ≡ moved B.Value.Measure.meaning (B.view book.old) clear_call }
+    ensures tells { OnOk result (Told (string_bytes out.old) (λ text. answer_text text number (answered B.Value.Measure.meaning (B.view book.old) clear_call)) (string_bytes out.new)) }
 {
     book.clear();
     answers::clear(out)
@@ -50,8 +50,8 @@ fn clear<B: PricedBook>(book: &mut B, number: usize, out: &mut String) -> Result
 
 // Builds the next root.
 fn root<B: PricedBook>(book: &mut B, number: usize, out: &mut String) -> Result<(), AllocError>
-    ensures moves { view book.new ≡ moved Value-as-Measure.meaning (view book.old) root-call }
-    ensures tells { OnOk result (Told (string_bytes out.old) (λ text. answer_text text number (answered Value-as-Measure.meaning (view book.old) root-call)) (string_bytes out.new)) }
+    ensures moves { B.view book.new ≡ moved B.Value.Measure.meaning (B.view book.old) root_call }
+    ensures tells { OnOk result (Told (string_bytes out.old) (λ text. answer_text text number (answered B.Value.Measure.meaning (B.view book.old) root_call)) (string_bytes out.new)) }
 {
     match book.root() {
         Ok(built) => answers::root(out, built.number as usize, built.progress),
@@ -70,7 +70,7 @@ fn look<B: PricedBook>(
 ) -> Result<(), AllocError>
 where
     B::Value: Display,
-    ensures { OnOk result (ToldAs output (string_bytes out.old) (λ text. answer_text text number (answered B.Value.Measure.meaning (view book.now) (look-call from to))) (string_bytes out.new)) }
+    ensures { OnOk result (ToldAs B.Value.Display.output (string_bytes out.old) (λ text. answer_text text number (answered B.Value.Measure.meaning (B.view book.now) (look_call from to))) (string_bytes out.new)) }
 {
     match book.look(from, to) {
         Ok(value) => {
@@ -87,7 +87,7 @@ fn print_entry<V: Display + Copy>(
     entry: Entry<V>,
     out: &mut String,
 ) -> Result<(), AllocError>
-    ensures { OnOk result (ToldAs output (string_bytes out.old) (λ text. entry_line entry.from entry.to (text entry.value)) (string_bytes out.new)) }
+    ensures { OnOk result (ToldAs V.Display.output (string_bytes out.old) (λ text. entry_line entry.from entry.to (text entry.value)) (string_bytes out.new)) }
 {
     let value = entry.value;
     let text = format!(in heap; "{value}")?;
@@ -105,7 +105,7 @@ fn print_entries<V: Display + Copy>(
     entries: &[Entry<V>],
     out: &mut String,
 ) -> Result<(), AllocError>
-    ensures { OnOk result (ToldAs output (string_bytes out.old) (λ text. entries_text text entries.now) (string_bytes out.new)) }
+    ensures { OnOk result (ToldAs V.Display.output (string_bytes out.old) (λ text. entries_text text entries.now) (string_bytes out.new)) }
 {
     for item in entries {
         print_entry(heap, *item, out)?;
@@ -122,7 +122,7 @@ fn list<B: PricedBook>(
 ) -> Result<(), AllocError>
 where
     B::Value: Display,
-    ensures { OnOk result (ToldAs output (string_bytes out.old) (λ text. answer_text text number (answered B.Value.Measure.meaning (view book.now) list-call)) (string_bytes out.new)) }
+    ensures { OnOk result (ToldAs B.Value.Display.output (string_bytes out.old) (λ text. answer_text text number (answered B.Value.Measure.meaning (B.view book.now) list_call)) (string_bytes out.new)) }
 {
     match book.list() {
         Ok(entries) => print_entries(heap, entries, out),
@@ -140,8 +140,8 @@ pub fn attend<B: PricedBook>(
 ) -> Result<(), AllocError>
 where
     B::Value: Display,
-    ensures moves { view book.new ≡ attended B.Value.Measure.meaning (view book.old) command }
-    ensures tells { OnOk result (ToldAs output (string_bytes out.old) (λ text. printed B.Value.Measure.meaning text number (view book.old) command) (string_bytes out.new)) }
+    ensures moves { B.view book.new ≡ attended B.Value.Measure.meaning (B.view book.old) command }
+    ensures tells { OnOk result (ToldAs B.Value.Display.output (string_bytes out.old) (λ text. printed B.Value.Measure.meaning text number (B.view book.old) command) (string_bytes out.new)) }
 {
     match command {
         Command::Open(_, _) => Ok(()),

@@ -12,7 +12,7 @@ loop-line-preserved g c =
 
 pub returns : goal.returns
 returns g c =
-    let told = c.in-default.ensures in
+    let told = c.in_default.ensures in
     record {
       input = ◌∙◌ {a = c.next.new.self.input.now} told.input c.loop-line.invariant.0;
       ended = ended c.loop-line.lines.input.now c.next.new.self.input.now c.loop-line.lines.place c.loop-line.lines.number c.next.new.self.place c.next.new.self.number told.input told.gives;
