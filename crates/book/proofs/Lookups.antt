@@ -3,10 +3,10 @@ use Rattle.std.proofs.Common.{◌≡◌, ℕ, ◌<◌, ◌≤◌, List, sym, ap,
 use Rattle.theory.specs.declared.Entry.{Entry}
 use Rattle.theory.specs.declared.Phase as phases
 use Rattle.theory.specs.Measures.{Meaning, Lawful}
-use Rattle.theory.specs.Chains.{BestOver, best}
+use Rattle.theory.specs.Chains.{BestOver}
 use Rattle.theory.specs.Tables.{finished, answer, held}
 use Rattle.theory.specs.Order.{Sorted}
-use Rattle.theory.specs.Books.{View, Sound, Guarantee, best_of}
+use Rattle.theory.specs.Books.{View, Sound, best_of}
 use Rattle.theory.proofs.Guarantees.{guarantee, finished_vals}
 use Rattle.theory.proofs.SortedTables.{listed_sorted}
 

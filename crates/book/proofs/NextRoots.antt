@@ -1,7 +1,7 @@
 -- Root steps of a book: the next root of a sound book, what the kernel finds in its strips, and the book after the root.
-use Rattle.std.proofs.Common.{◌≡◌, ℕ, suc, ◌+◌, ◌-◌, ◌^◌, ◌<◌, ◌≤◌, min, Bool, true, false, cond, eqb, ltb, ◌⊎◌, List, [], ◌∷◌, ◌++◌, length, take, drop, replicate, Some, None, Option, sym, refl, ap, ◌∙◌, subst, ap₂, inl, inr, ⊎_elim, arith}
+use Rattle.std.proofs.Common.{◌≡◌, ℕ, suc, ◌+◌, ◌-◌, ◌^◌, ◌<◌, ◌≤◌, min, Bool, true, false, eqb, ltb, List, [], ◌∷◌, length, take, replicate, Some, None, Option, sym, refl, ap, ◌∙◌, subst, ap₂, ⊎_elim, arith}
 use Rattle.std.proofs.lemmas.Bool.{cases_Bool, cond-true, cond-false, lt-ltb, le-ltb, eqb-true, eqb-false, cases_eq}
-use Rattle.std.proofs.lemmas.List.{length-append, length-replicate, take_at}
+use Rattle.std.proofs.lemmas.List.{length-replicate, take_at}
 use Rattle.theory.specs.declared.Redraw.{Redraw}
 use Rattle.theory.specs.declared.Entry.{Entry}
 use Rattle.theory.specs.declared.Phase as phases
@@ -10,10 +10,10 @@ use Rattle.theory.specs.declared.Progress.{Progress}
 use Rattle.theory.specs.declared.Refusal.{Refusal}
 use Rattle.theory.specs.declared.Refusal.TheVariants.{WantOfPlaces}
 use Rattle.theory.specs.Measures.{Meaning, Lawful, some}
-use Rattle.theory.specs.Chains.{Register, best}
+use Rattle.theory.specs.Chains.{best}
 use Rattle.theory.specs.Tables.{Table, rooted, finished, listed, entries_at}
 use Rattle.theory.specs.Order.{blank_entry}
-use Rattle.theory.specs.Books.{View, Strips, Call, Answer, padded, laid_out, Sound, Stands, Stepped, changed, root_entries, root_refusal, places_refusal, roots_done, root_ends, progress, phase_after, taken_answer, taken_view, built, refused, answered, moved, unless, root, NothingFits}
+use Rattle.theory.specs.Books.{View, Strips, Answer, padded, laid_out, Sound, Stands, Stepped, changed, root_entries, root_refusal, places_refusal, roots_done, root_ends, progress, phase_after, taken_answer, taken_view, built, refused, unless, root, NothingFits}
 use Rattle.theory.proofs.Orders as orders
 use Rattle.theory.proofs.Roots as roots
 use Rattle.theory.proofs.Guarantees as guarantees

@@ -1,7 +1,6 @@
 -- A redraw more in a strip of which a place is left.
-use Rattle.std.proofs.Common.{◌≡◌, ℕ, ◌-◌, ◌<◌, ◌≤◌, min, List, [], ◌∷◌, ◌++◌, length, take, drop, replicate, sym, ap, ◌∙◌, subst, ap₂, arith, length-append, take-append-drop, length-take}
+use Rattle.std.proofs.Common.{◌≡◌, ℕ, ◌-◌, ◌<◌, ◌≤◌, List, ◌++◌, length, take, drop, replicate, sym, ap, ◌∙◌, arith, take-append-drop, length-take}
 use mathlib.Core.List.{append_cancel_left}
-use lib.ListN.{length-replicate}
 use Rattle.strips.specs.Strips.{Held}
 use Rattle.book.specs.Registers.{Room, Padded}
 

@@ -1,5 +1,5 @@
 -- The making of a book: the slices that were lent go into what was checked, and from there into the book.
-use Rattle.std.specs.Prelude.{◌≡◌, ℕ, ◌≤◌, List}
+use Rattle.std.specs.Prelude.{◌≡◌, ℕ, ◌≤◌}
 use Rattle.measures.specs.declared.measure.Measure.{Ghosts}
 use Rattle.book.specs.declared.book.Book.{Book}
 use Rattle.book.specs.declared.checked.Checked.{Checked}

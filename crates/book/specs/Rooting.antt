@@ -1,8 +1,7 @@
 -- The turn of the root builder: which root comes next, the book once its entries are put in, and the book once the phase has moved on.
-use Rattle.std.specs.Prelude.{◌≡◌, ℕ, suc, ◌<◌, ◌≤◌, List, length}
-use Rattle.theory.specs.declared.Phase.{Phase}
+use Rattle.std.specs.Prelude.{◌≡◌, ℕ, suc, ◌<◌, ◌≤◌, length}
 use Rattle.theory.specs.Measures.{Meaning}
-use Rattle.theory.specs.Books.{View, laid_out, Sound, changed, root_entries, root_refusal, places_refusal, roots_done}
+use Rattle.theory.specs.Books.{View, laid_out, changed, root_entries, root_refusal, places_refusal, roots_done}
 use Rattle.book.specs.declared.book.Book.{Book}
 use Rattle.book.specs.Views.{view, strips_of, Kept}
 

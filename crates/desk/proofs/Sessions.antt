@@ -1,7 +1,7 @@
 -- Every opening takes a line.
-use Rattle.std.proofs.Common.{◌≡◌, ℕ, ◌+◌, ◌<◌, ◌≤◌, Bool, true, false, List, [], ◌∷◌, ◌++◌, length, Some, None, Option, sym, ap, ◌∙◌, subst, arith}
+use Rattle.std.proofs.Common.{◌≡◌, ℕ, ◌+◌, ◌<◌, Bool, true, false, List, [], ◌∷◌, length, Some, None, Option, sym, ap, subst, arith}
 use Rattle.sessions.specs.declared.serve.Opening.{Opening}
-use Rattle.sessions.specs.Serving.{Reading, opening_of, waiting_text, Awaited, AwaitedBy, OpeningAwaited}
+use Rattle.sessions.specs.Serving.{opening_of, waiting_text, Awaited, AwaitedBy, OpeningAwaited}
 use Rattle.desk.specs.Desk.{Opened, Session, never_opened, turned_away, served}
 
 none_some : {X : Type 0} (x : X) → ◌≡◌ {A = Option X} None (Some x) → ⊥

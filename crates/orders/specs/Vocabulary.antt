@@ -2,7 +2,6 @@
 -- each measure. Any other first word is unknown.
 use Rattle.std.specs.Prelude.{ℕ, Bool, true, false, cond, List, [], ◌∷◌, Some, None, codes, Option}
 use Rattle.std.specs.Str.{bytes_eq}
-use Rattle.orders.specs.declared.vocabulary.Kind.{Kind}
 use Rattle.orders.specs.declared.vocabulary.Kind.TheVariants.{Minutes, Chain, Weakest}
 use Rattle.orders.specs.declared.vocabulary.FirstWord.{FirstWord}
 use Rattle.orders.specs.declared.vocabulary.FirstWord.TheVariants as word

@@ -1,5 +1,5 @@
 -- Putting both runs into the table: after the two merges it is the table after the root.
-use Rattle.std.proofs.Common.{◌≡◌, ℕ, suc, ◌+◌, ◌-◌, ◌<◌, ◌≤◌, min, Bool, true, false, ◌⊎◌, List, [], ◌∷◌, ◌++◌, length, get_or, take, drop, replicate, Some, None, Option, sym, refl, ap, ◌∙◌, subst, ap₂, inl, inr, ⊎_elim, arith}
+use Rattle.std.proofs.Common.{◌≡◌, ℕ, suc, ◌+◌, ◌-◌, ◌<◌, ◌≤◌, min, true, false, ◌⊎◌, List, ◌++◌, length, get_or, take, drop, replicate, Some, sym, refl, ap, ◌∙◌, subst, ap₂, inl, inr, ⊎_elim, arith}
 use Rattle.std.proofs.lemmas.List.{length-append, length-replicate, take_all, take_at, drop_at, take-append-drop, drop-replicate, drop-append-le, drop-drop}
 use Rattle.theory.specs.declared.Redraw.{Redraw}
 use Rattle.theory.specs.declared.Entry.{Entry}
@@ -16,8 +16,8 @@ use Rattle.theory.proofs.Roots as roots
 use Rattle.theory.proofs.Listings as listings
 use Rattle.theory.proofs.SortedTables as sorted
 use Rattle.theory.proofs.Growing as growing
-use Rattle.theory.proofs.Members.{among_get_or, places_rising}
-use Rattle.merging.specs.Merging.{Rising, Apart, Mergeable, Merged}
+use Rattle.theory.proofs.Members.{places_rising}
+use Rattle.merging.specs.Merging.{Apart, Mergeable, Merged}
 use Rattle.roots.specs.Turns.{Ready, Buildable, BuiltRoot, Both}
 
 module _ {V : Type 0} (m : Meaning V) (L : Lawful m) (n : ℕ) (small : n ≤ 65536) where

@@ -6,8 +6,8 @@ use Rattle.theory.specs.declared.Entry.{Entry}
 use Rattle.theory.specs.declared.Way.{Way}
 use Rattle.theory.specs.declared.Way.TheVariants.{Out, In}
 use Rattle.theory.specs.Measures.{Meaning, Lawful}
-use Rattle.theory.specs.Chains.{Register, best}
-use Rattle.theory.specs.Tables.{Table, answer, rooted, listed, held}
+use Rattle.theory.specs.Chains.{best}
+use Rattle.theory.specs.Tables.{answer, rooted, held}
 use Rattle.theory.specs.Order.{Sorted}
 use Rattle.theory.specs.Searches.{facing, facing_redraws, facing_table, unsettled, value_at, nearest_below, answers_as_well, settled_marks, settled_work, fresh_below, Nearest, Underway, Run}
 use Rattle.theory.proofs.Best as bests

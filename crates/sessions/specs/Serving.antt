@@ -12,7 +12,7 @@ use Rattle.orders.specs.declared.refusals.LineRefusal.{LineRefusal}
 use Rattle.orders.specs.Commands.{read_as}
 use Rattle.orders.specs.Refusals.{refusal_number, faulty_word}
 use Rattle.answers.specs.declared.Layer.TheVariants as layers
-use Rattle.answers.specs.Printed.{refused_line, opening_line}
+use Rattle.answers.specs.Printed.{refused_line}
 use Rattle.sessions.specs.declared.serve.Opening.{Opening}
 use Rattle.sessions.specs.Attending.{ToldAs, printed, attended}
 

@@ -3,9 +3,9 @@ use Rattle.std.proofs.Common.{◌≡◌, ℕ, ◌+◌, ◌<◌, ◌≤◌, ◌�
 use Rattle.std.proofs.lemmas.List.{get_or_read}
 use Rattle.std.proofs.lemmas.Bool.{cases_lt}
 use Rattle.theory.specs.declared.Entry.{Entry}
-use Rattle.theory.specs.Measures.{Meaning, Lawful, Value, NotWorse, pick, NoWorse}
+use Rattle.theory.specs.Measures.{Meaning, Lawful, Value, pick, NoWorse}
 use Rattle.tables.specs.Places.{Rising}
-use Rattle.tables.specs.Walks.{Values, Match, join_at, Attained, Walkable, Walked}
+use Rattle.tables.specs.Walks.{Match, join_at, Attained, Walkable, Walked}
 use Rattle.theory.proofs.Orders as orders
 
 -- r is the best of the start value and the joins of all matches with a place before i or before j

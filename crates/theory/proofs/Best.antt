@@ -1,10 +1,9 @@
 -- The best measure by elimination is the best over all chains, of any length: no chain is better, and it is none or some chain's value.
-use Rattle.std.proofs.Common.{◌≡◌, ℕ, zero, suc, ◌<◌, ◌≤◌, Bool, true, false, cond, not, ◌&&◌, eqb, ltb, ◌⊎◌, List, [], ◌∷◌, ◌++◌, sym, refl, ap, ◌∙◌, subst, inl, inr, ⊎_elim, arith}
+use Rattle.std.proofs.Common.{◌≡◌, ℕ, zero, suc, ◌<◌, true, false, cond, not, ◌&&◌, eqb, ltb, ◌⊎◌, List, [], ◌∷◌, ◌++◌, sym, refl, ap, ◌∙◌, subst, inl, inr, ⊎_elim, arith}
 use Rattle.std.specs.List.{AllByRecursion as All}
-use Rattle.std.proofs.lemmas.Bool.{cases_Bool, both_ways, cond_both, cond-true, cond-false, and_parts, and_from, not-true, eqb-true, eqb-false, eq-eqb, ltb-true, cases_eq}
-use Rattle.std.proofs.ByRecursion.{All-append}
+use Rattle.std.proofs.lemmas.Bool.{cases_Bool, cond_both, cond-true, cond-false, and_parts, and_from, not-true, eqb-true, eqb-false, eq-eqb, ltb-true, cases_eq}
 use Rattle.theory.specs.declared.Redraw.{Redraw}
-use Rattle.theory.specs.Measures.{Meaning, Lawful, Value, NotWorse, NoWorse, proper, some, same, pick, best_below}
+use Rattle.theory.specs.Measures.{Meaning, Lawful, Value, NoWorse, proper, some}
 use Rattle.theory.specs.Chains.{Among, fits, Register, Runs, Chain, value, Reached, BestOver, direct, reach, best}
 use Rattle.theory.proofs.Orders as orders
 

@@ -1,13 +1,12 @@
 -- A search out from a root and a search in towards it are one search, under the measure, the redraws and the table as that search sees them.
-use Rattle.std.proofs.Common.{◌≡◌, ℕ, ◌<◌, ◌≤◌, min, List, sym, refl, ap, ◌∙◌, subst, ap₂, arith}
+use Rattle.std.proofs.Common.{◌≡◌, ℕ, ◌<◌, List, sym, refl, ap, ◌∙◌, arith}
 use Rattle.theory.specs.declared.Redraw.{Redraw}
-use Rattle.theory.specs.declared.Entry.{Entry}
 use Rattle.theory.specs.declared.Way.{Way}
 use Rattle.theory.specs.declared.Way.TheVariants.{Out, In}
 use Rattle.theory.specs.Measures.{Meaning, Lawful}
 use Rattle.theory.specs.Chains.{Register, best}
 use Rattle.theory.specs.Tables.{Table, answer, finished, rooted, listed, held}
-use Rattle.theory.specs.Mirror.{turned, flipped, mirror}
+use Rattle.theory.specs.Mirror.{mirror}
 use Rattle.theory.specs.Searches.{facing, facing_redraws, facing_table}
 use Rattle.theory.proofs.Best as bests
 use Rattle.theory.proofs.Finished as fin

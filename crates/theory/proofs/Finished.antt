@@ -1,10 +1,10 @@
 -- The finished table of best measures: it answers every pair rightly, and every honest table that answers rightly holds each of its entries.
 -- All is said of any b with the triangle: b s s is the empty chain, and no detour over a sheet below n is better.
-use Rattle.std.proofs.Common.{◌≡◌, ℕ, zero, suc, ◌<◌, ◌≤◌, min, Bool, true, false, cond, not, ◌&&◌, ◌||◌, eqb, ltb, ◌⊎◌, Decides, sym, refl, ap, ◌∙◌, subst, ap₂, inl, inr, ⊎_elim, arith}
-use Rattle.std.proofs.lemmas.Bool.{cases_Bool, both_ways, cond_both, cond-true, cond-false, and_parts, and_from, or_cases, or_from, or_left, or_right, eqb-true, eqb-false, eq-eqb, ne_eqb, ltb-true, lt-ltb, le-ltb, cases_eq, cases_lt}
+use Rattle.std.proofs.Common.{◌≡◌, ℕ, zero, suc, ◌<◌, ◌≤◌, min, Bool, true, false, cond, ◌&&◌, ◌||◌, eqb, ◌⊎◌, Decides, sym, refl, ap, ◌∙◌, subst, ap₂, inl, inr, ⊎_elim, arith}
+use Rattle.std.proofs.lemmas.Bool.{cases_Bool, both_ways, cond_both, cond-true, cond-false, and_parts, and_from, or_from, or_right, eqb-true, eqb-false, eq-eqb, ne_eqb, cases_eq, cases_lt}
 use Rattle.std.proofs.lemmas.Bool.Decides.{Decides-below_or}
-use Rattle.theory.specs.Measures.{Meaning, Lawful, Value, NotWorse, NoWorse, some, same, pick, best_below, any_below}
-use Rattle.theory.specs.Tables.{Table, answer, between, covered, finished, rooted, Honest, Right}
+use Rattle.theory.specs.Measures.{Meaning, Lawful, Value, NoWorse, some, same, pick, best_below, any_below}
+use Rattle.theory.specs.Tables.{Table, answer, between, covered, finished, Honest, Right}
 use Rattle.theory.proofs.Orders as orders
 
 -- a test below k: it finds one, or none passes

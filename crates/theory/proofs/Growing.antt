@@ -1,7 +1,7 @@
 -- The new entries of a root: each of the two searches gives a run in order, the table with both runs put in is the table after the root,
 -- and it is as long as the three together.
-use Rattle.std.proofs.Common.{◌≡◌, ℕ, zero, suc, ◌+◌, ◌*◌, ◌<◌, ◌≤◌, min, Bool, true, false, cond, ◌&&◌, eqb, ltb, ◌⊎◌, List, [], ◌∷◌, ◌++◌, length, get_or, sym, refl, ap, ◌∙◌, subst, ap₂, inl, inr, ⊎_elim, arith, length-append}
-use Rattle.std.proofs.lemmas.Bool.{cases_Bool, both_ways, cond_both, cond-true, cond-false, and_parts, and_from, eqb-true, eq-eqb, ltb-true, lt-ltb, cases_eq, cases_lt, cases_order}
+use Rattle.std.proofs.Common.{◌≡◌, ℕ, zero, suc, ◌+◌, ◌*◌, ◌<◌, ◌≤◌, min, Bool, true, false, cond, ◌&&◌, eqb, ltb, ◌⊎◌, List, [], ◌∷◌, length, get_or, sym, refl, ap, ◌∙◌, subst, inl, inr, ⊎_elim, arith}
+use Rattle.std.proofs.lemmas.Bool.{cases_Bool, cond_both, cond-true, cond-false, and_parts, and_from, eqb-true, eq-eqb, ltb-true, lt-ltb, cases_eq, cases_lt}
 use Rattle.theory.specs.declared.Redraw.{Redraw}
 use Rattle.theory.specs.declared.Entry.{Entry}
 use Rattle.theory.specs.declared.Way.{Way}
@@ -9,7 +9,7 @@ use Rattle.theory.specs.declared.Way.TheVariants.{Out, In}
 use Rattle.theory.specs.Measures.{Meaning, Lawful, Value, some}
 use Rattle.theory.specs.Chains.{Among, Register, best}
 use Rattle.theory.specs.Tables.{Table, entry, pairs, entries_at, finished, rooted, listed, held}
-use Rattle.theory.specs.Order.{key, key_of, LawfulEntry, Sorted, overlaid}
+use Rattle.theory.specs.Order.{key_of, LawfulEntry, Sorted, overlaid}
 use Rattle.theory.specs.Searches.{facing, facing_redraws, facing_table, new_entry, fresh_at, fresh_below, Nearest, Underway, Run}
 use Rattle.theory.proofs.Orders as orders
 use Rattle.theory.proofs.Best as bests

@@ -1,15 +1,15 @@
 -- What a finished book guarantees, and why a root that wants for places means that no honest, right table fits.
-use Rattle.std.proofs.Common.{◌≡◌, ℕ, zero, suc, ◌<◌, ◌≤◌, min, Bool, true, false, cond, ◌&&◌, ◌||◌, eqb, ltb, ◌⊎◌, List, [], ◌∷◌, ◌++◌, length, sym, refl, ap, ◌∙◌, subst, ap₂, inl, inr, ⊎_elim, arith}
+use Rattle.std.proofs.Common.{◌≡◌, ℕ, ◌<◌, ◌≤◌, min, true, ltb, List, [], ◌∷◌, length, sym, refl, ap, ◌∙◌, subst, inl, inr, arith}
 use Rattle.std.specs.List.{AllByRecursion as All}
 use Rattle.std.proofs.lemmas.Bool.{cond_both}
 use Rattle.theory.specs.declared.Redraw.{Redraw}
 use Rattle.theory.specs.declared.Entry.{Entry}
 use Rattle.theory.specs.declared.Phase as phases
 use Rattle.theory.specs.declared.Phase.{Phase}
-use Rattle.theory.specs.Measures.{Meaning, Lawful, Value, some}
+use Rattle.theory.specs.Measures.{Meaning, Lawful, some}
 use Rattle.theory.specs.Chains.{Among, Register, BestOver, best}
 use Rattle.theory.specs.Tables.{Table, entry, answer, finished, rooted, listed, held, InOrder, Honest, Right}
-use Rattle.theory.specs.Books.{View, best_of, Stands, Sound, HonestRight, AgreeOnBest, Guarantee, NothingFits, root_entries}
+use Rattle.theory.specs.Books.{View, Stands, Sound, Guarantee, NothingFits, root_entries}
 use Rattle.theory.proofs.Orders as orders
 use Rattle.theory.proofs.Best as bests
 use Rattle.theory.proofs.Finished as fin

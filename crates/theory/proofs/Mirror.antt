@@ -1,14 +1,12 @@
 -- The other direction: under the mirrored measure, with every redraw turned round, best measures, answers and finished tables are those of the pair turned round.
-use Rattle.std.proofs.Common.{◌≡◌, ℕ, zero, suc, ◌<◌, ◌≤◌, min, Bool, true, false, cond, not, ◌&&◌, ◌||◌, eqb, ltb, ◌⊎◌, List, [], ◌∷◌, map, sym, refl, ap, ◌∙◌, subst, ap₂, inl, inr, ⊎_elim, arith}
-use Rattle.std.specs.List.{AllByRecursion as All}
-use Rattle.std.proofs.lemmas.Bool.{cases_Bool, eqb-true, eqb-false, eq-eqb, ne_eqb, cases_eq, and_parts, and_from, not-true, not_from_false, lt-ltb}
+use Rattle.std.proofs.Common.{◌≡◌, ℕ, zero, suc, min, Bool, true, false, cond, not, ◌&&◌, ◌||◌, eqb, ltb, List, [], ◌∷◌, map, sym, refl, ap, ◌∙◌, ap₂, inl, inr, ⊎_elim, arith}
+use Rattle.std.proofs.lemmas.Bool.{eq-eqb, ne_eqb, cases_eq, and_from, not_from_false, lt-ltb}
 use Rattle.theory.specs.declared.Redraw.{Redraw}
-use Rattle.theory.specs.Measures.{Meaning, Lawful, Value, NotWorse, proper, some, same, pick, best_below, any_below}
+use Rattle.theory.specs.Measures.{Meaning, Lawful, proper, pick, best_below, any_below}
 use Rattle.theory.specs.Chains.{Among, fits, Register, direct, reach, best}
 use Rattle.theory.specs.Tables.{Table, answer, between, covered, finished, rooted}
 use Rattle.theory.specs.Mirror.{turned, flipped, mirror}
 use Rattle.theory.proofs.Best as bests
-use Rattle.theory.proofs.Finished as fin
 
 pub mirror_lawful : {V : Type 0} (m : Meaning V) → Lawful m → Lawful (mirror m)
 mirror_lawful m L = record {

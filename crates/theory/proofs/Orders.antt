@@ -1,7 +1,7 @@
 -- What the laws of a lawful measure give: an order on its values, the better of two, the best of many.
-use Rattle.std.proofs.Common.{◌≡◌, ℕ, zero, suc, ◌<◌, ◌≤◌, Bool, true, false, cond, not, ◌&&◌, eqb, ◌⊎◌, sym, refl, ap, ◌∙◌, subst, inl, inr, ⊎_elim, arith}
-use Rattle.std.proofs.lemmas.Bool.{cases_Bool, both_ways, cond_both, cond-true, cond-false, and_parts, and_from, not-true, not_from_false, cases_eq}
-use Rattle.theory.specs.Measures.{Meaning, Lawful, Value, NotWorse, NoWorse, some, same, pick, best_below, any_below}
+use Rattle.std.proofs.Common.{◌≡◌, ℕ, zero, suc, ◌<◌, true, false, not, ◌⊎◌, sym, refl, ◌∙◌, subst, inl, inr, ⊎_elim, arith}
+use Rattle.std.proofs.lemmas.Bool.{cases_Bool, both_ways, cond_both, and_parts, and_from, not-true, not_from_false, cases_eq}
+use Rattle.theory.specs.Measures.{Meaning, Lawful, Value, NoWorse, some, same, pick, best_below}
 
 module _ {V : Type 0} (m : Meaning V) (L : Lawful m) where
   infix 40 ◌≼◌

@@ -1,11 +1,11 @@
 -- The root step: after r roots the table, by its own answer, decides which entries of sheet r come next,
 -- and a search from r that is pruned by that answer finds their values.
-use Rattle.std.proofs.Common.{◌≡◌, ℕ, zero, suc, ◌<◌, ◌≤◌, min, Bool, true, false, cond, not, ◌&&◌, ◌||◌, eqb, ltb, ◌⊎◌, List, [], ◌∷◌, ◌++◌, sym, refl, ap, ◌∙◌, subst, ap₂, inl, inr, ⊎_elim, arith}
-use Rattle.std.proofs.lemmas.Bool.{cases_Bool, both_ways, cond_both, cond-true, cond-false, eqb-true, eqb-false, eq-eqb, ne_eqb, lt-ltb, le-ltb, cases_eq, cases_lt, not_from_false, not-true}
+use Rattle.std.proofs.Common.{◌≡◌, ℕ, ◌<◌, ◌≤◌, min, true, false, cond, not, ◌||◌, eqb, ltb, ◌⊎◌, List, [], ◌∷◌, sym, refl, ap, ◌∙◌, subst, ap₂, inl, inr, ⊎_elim, arith}
+use Rattle.std.proofs.lemmas.Bool.{both_ways, cond_both, cond-true, cond-false, eqb-true, eq-eqb, ne_eqb, lt-ltb, le-ltb, cases_eq, cases_lt, not_from_false, not-true}
 use Rattle.theory.specs.declared.Redraw.{Redraw}
-use Rattle.theory.specs.Measures.{Meaning, Lawful, Value, NotWorse, NoWorse, some, same, pick, best_below}
-use Rattle.theory.specs.Chains.{Among, fits, Register, Reached, Runs, Chain, value, best}
-use Rattle.theory.specs.Tables.{Table, answer, between, covered, finished, rooted}
+use Rattle.theory.specs.Measures.{Meaning, Lawful, Value, NoWorse, some, pick}
+use Rattle.theory.specs.Chains.{Among, fits, Register, Reached, Chain, value, best}
+use Rattle.theory.specs.Tables.{Table, answer, covered, finished, rooted}
 use Rattle.theory.proofs.Orders as orders
 use Rattle.theory.proofs.Best as bests
 use Rattle.theory.proofs.Finished as fin

@@ -1,12 +1,11 @@
 -- The pruned search from a root: what every turn keeps, and what the search has found when no sheet is left to settle.
-use Rattle.std.proofs.Common.{◌≡◌, ℕ, zero, suc, ◌+◌, ◌<◌, ◌≤◌, min, Bool, true, false, cond, not, ◌&&◌, ◌||◌, eqb, ltb, ◌≢◌, ◌⊎◌, List, [], ◌∷◌, ◌++◌, length, get_or, set, replicate, Some, None, Option, sym, refl, ap, ◌∙◌, subst, ap₂, inl, inr, ⊎_elim, arith}
-use Rattle.std.specs.List.{AllByRecursion as All}
-use Rattle.std.proofs.lemmas.Bool.{cases_Bool, both_ways, cond_both, cond-true, cond-false, and_parts, and_from, and_cases, not-true, not-false, not_from_false, eqb-true, eqb-false, eq-eqb, ne_eqb, cases_eq, cases_lt}
+use Rattle.std.proofs.Common.{◌≡◌, ℕ, zero, suc, ◌<◌, ◌≤◌, Bool, true, false, cond, not, ◌&&◌, eqb, ◌⊎◌, List, [], ◌∷◌, length, get_or, set, replicate, Some, None, Option, sym, refl, ap, ◌∙◌, subst, inl, inr, ⊎_elim, arith}
+use Rattle.std.proofs.lemmas.Bool.{cases_Bool, both_ways, cond_both, cond-true, cond-false, and_parts, and_cases, not-true, not-false, eqb-true, eqb-false, eq-eqb, ne_eqb, cases_eq, cases_lt}
 use Rattle.std.proofs.lemmas.List.{length-set, length-replicate, get_or-set_same, get_or-set_other, get_or-replicate, get_or_past, set_past}
 use Rattle.theory.specs.declared.Redraw.{Redraw}
-use Rattle.theory.specs.Measures.{Meaning, Lawful, Value, NotWorse, NoWorse, some, pick}
+use Rattle.theory.specs.Measures.{Meaning, Lawful, Value, NoWorse, some}
 use Rattle.theory.specs.Chains.{Among, fits, Register, Reached, best}
-use Rattle.theory.specs.Tables.{Table, answer, finished, rooted}
+use Rattle.theory.specs.Tables.{answer, finished, rooted}
 use Rattle.theory.specs.Searches.{relaxed_one, relaxed, unsettled, value_at, nearest_below, answers_as_well, settled_marks, settled_work, worked, Nearest, Underway}
 use Rattle.theory.proofs.Orders as orders
 use Rattle.theory.proofs.Best as bests

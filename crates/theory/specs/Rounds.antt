@@ -1,5 +1,5 @@
 -- The tables of rounds. A round generates a table and prunes it, judged on the generated table as a whole; the entries that are left stand in order.
-use Rattle.std.specs.Prelude.{ℕ, zero, suc, min, Bool, cond, not, ◌&&◌, ◌||◌, List, [], ◌==◌, nat_lt}
+use Rattle.std.specs.Prelude.{ℕ, zero, suc, min, cond, not, ◌&&◌, List, [], ◌==◌, nat_lt}
 use Rattle.theory.specs.declared.Redraw.{Redraw}
 use Rattle.theory.specs.declared.Entry.{Entry}
 use Rattle.theory.specs.Measures.{Meaning, pick, best_below, any_below}

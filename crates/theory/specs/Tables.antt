@@ -1,7 +1,7 @@
 -- A table (a set of hub labels) has at most one entry for an ordered pair of different sheets, never with the value none.
 -- So a table is a function of two sheets that is none where there is no entry; its listing is what stands in a strip.
 -- A lower sheet number is senior to a higher one. An entry belongs to its junior sheet, as an out entry if that sheet is `from`, else as an in entry.
-use Rattle.std.specs.Prelude.{◌≡◌, ℕ, zero, suc, ◌<◌, ◌≤◌, min, Bool, true, cond, ◌&&◌, ◌||◌, List, [], ◌∷◌, ◌++◌, ◌==◌, ◌≢◌, nat_lt}
+use Rattle.std.specs.Prelude.{◌≡◌, ℕ, zero, suc, ◌<◌, min, Bool, true, cond, ◌&&◌, ◌||◌, List, [], ◌∷◌, ◌++◌, ◌==◌, ◌≢◌, nat_lt}
 use Rattle.theory.specs.declared.Entry.{Entry}
 use Rattle.theory.specs.Measures.{Meaning, NotWorse, some, same, pick, best_below, any_below}
 

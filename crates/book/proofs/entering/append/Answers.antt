@@ -1,10 +1,9 @@
 -- where a place is left the redraw is put there
-use Rattle.std.proofs.Common.{◌≡◌, ℕ, ◌+◌, ◌<◌, true, cond, [], ◌∷◌, ◌++◌, length, take, sym, ap, ◌∙◌, subst, arith, length-append, rules}
+use Rattle.std.proofs.Common.{◌≡◌, ℕ, ◌+◌, ◌<◌, true, cond, [], ◌∷◌, ◌++◌, length, take, sym, ap, ◌∙◌, subst, arith, length-append}
 use Rattle.std.proofs.lemmas.Bool.{lt-ltb}
 use Rattle.std.proofs.ByRecursion.{All-push}
 use Rattle.theory.specs.Chains.{Register, fits}
 use Rattle.theory.specs.Books.{blank_redraw}
-use Rattle.book.specs.Registers.{Room, Padded}
 use Rattle.book.proofs.Places.{room_count, padded_held, held_padded}
 use Rattle.book.proofs.entering.append.Goals as goal
 

@@ -1,5 +1,5 @@
 -- the records in use go, and the places past them were blank
-use Rattle.std.proofs.Common.{◌≡◌, min, length, take, ap, ◌∙◌, arith, rules}
+use Rattle.std.proofs.Common.{◌≡◌, min, take, ap, ◌∙◌, arith}
 use Rattle.strips.specs.Strips.{wiped}
 use Rattle.book.proofs.Places.{padded_held}
 use Rattle.book.proofs.entering.empty.Goals as goal

@@ -19,4 +19,4 @@ loop-out-preserved c after S =
     _ _ (ap (λ (x : Lines). x.number) same) (ap (λ (x : Lines). ahead x.input.now x.place) same) after S)
 
 pub returns : goal.returns
-returns c = c.loop-out.invariant _ (session_none _ _ c.in_ok-opening.field-0 _ _ _ _ c.in_ok-opening.ensures.awaited c.in-default.is)
+returns c = c.loop-out.invariant _ (session_none _ _ c.in_ok-opening.field-0 _ _ _ _ c.in_ok-opening.ensures.awaited c.in_default.is)

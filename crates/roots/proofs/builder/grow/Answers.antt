@@ -1,4 +1,4 @@
-use Rattle.std.proofs.Common.{◌≡◌, ◌+◌, ◌-◌, ◌<◌, ◌≤◌, length, sym, refl, ap, ◌∙◌, arith}
+use Rattle.std.proofs.Common.{◌≤◌, length, refl, ap, ◌∙◌, arith}
 use Rattle.theory.specs.Tables.{entry}
 use Rattle.roots.proofs.Putting.{ready, spare_wiped, too_long, too_many, middle_within, spare_blanked, put_in}
 use Rattle.roots.proofs.builder.grow.Goals as goal

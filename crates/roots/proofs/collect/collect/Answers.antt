@@ -1,4 +1,4 @@
-use Rattle.std.proofs.Common.{◌≡◌, suc, ◌+◌, ◌≤◌, length, Some, sym, refl, ap, ◌∙◌, subst, add-one, arith}
+use Rattle.std.proofs.Common.{suc, ◌≤◌, length, Some, sym, refl, ◌∙◌, subst, add-one, arith}
 use Rattle.std.proofs.lemmas.List.Edits.{paste_none}
 use Rattle.theory.specs.Searches.{fresh_at, fresh_below}
 use Rattle.roots.specs.Turns.{Added}

@@ -1,4 +1,4 @@
-use Rattle.std.proofs.Common.{◌≡◌, ap, ◌∙◌, rules}
+use Rattle.std.proofs.Common.{rules}
 use Rattle.theory.specs.Searches.{fresh_below}
 use Rattle.roots.proofs.Turning.{started, run}
 use Rattle.roots.proofs.gathering.gather.Goals as goal

@@ -1,4 +1,4 @@
-use Rattle.std.proofs.Common.{◌≡◌, ◌≤◌, length, sym, ap, ◌∙◌, subst, arith}
+use Rattle.std.proofs.Common.{◌≤◌, length, sym, ◌∙◌, subst, arith}
 use Rattle.roots.specs.Turns.{BothGathered}
 use Rattle.roots.proofs.Runs.{blank_again, blank_twice, first_stops, second_stops, both_fit}
 use Rattle.roots.proofs.gathering.gather_both.Goals as goal

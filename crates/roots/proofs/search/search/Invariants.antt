@@ -1,4 +1,3 @@
-use Rattle.std.proofs.Common.{◌≡◌}
 use Rattle.theory.specs.Measures.{Lawful}
 use Rattle.theory.specs.Searches.{facing, facing_redraws, Underway}
 use Rattle.theory.proofs.Searching.{unsettled_count}

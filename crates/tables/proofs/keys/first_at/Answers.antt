@@ -1,5 +1,5 @@
 -- one turn: the key in the middle is the one that was read
-use Rattle.std.proofs.Common.{ℕ, ◌+◌, ◌-◌, ◌/◌, ◌<◌, ◌≤◌, length, sym, subst, arith}
+use Rattle.std.proofs.Common.{◌+◌, ◌-◌, ◌/◌, ◌<◌, length, arith}
 use Rattle.tables.proofs.Searching.{narrowed_up, narrowed_down}
 use Rattle.tables.proofs.keys.first_at.Goals as goal
 

@@ -1,5 +1,5 @@
 -- the bounds of the search stand in order, and every key before them is below the wanted one, every key from the end on is not
-use Rattle.std.proofs.Common.{ℕ, ◌-◌, ◌<◌, ◌≤◌, length, get_or}
+use Rattle.std.proofs.Common.{◌-◌, ◌≤◌, length}
 use Rattle.theory.specs.Order.{key_of}
 use Rattle.tables.specs.Places.{Rising}
 use Rattle.tables.proofs.Searching.{Narrowed}

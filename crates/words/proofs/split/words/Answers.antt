@@ -1,4 +1,4 @@
-use Rattle.std.proofs.Common.{is_ok, sym, ap, ◌∙◌, subst, arith}
+use Rattle.std.proofs.Common.{is_ok, sym, ap, subst, arith}
 use Rattle.std.proofs.ResultArms.{chosen}
 use Rattle.words.proofs.Splitting.{Sofar, Ends, none_yet, one_more, ends}
 use Rattle.words.proofs.split.words.Goals as goal

@@ -1,4 +1,4 @@
-use Rattle.std.proofs.Common.{sym, refl, ap, ◌∙◌, rules}
+use Rattle.std.proofs.Common.{refl, rules}
 use Rattle.std.proofs.lemmas.Bool.{true≢false, false≢true}
 use Rattle.book.proofs.NextRoots.{buildable, put_in_taken, put_in_refused}
 use Rattle.book.proofs.book.Book.put_in.Goals as goal
