@@ -1,6 +1,5 @@
 -- The turns of a search: the sheet nearest to the root so far, and what settling it does to work and marks.
-use Rattle.std.specs.Prelude.{◌≡◌, ℕ, suc, ◌+◌, ◌<◌, ◌≤◌, cond, ◌&&◌, List, ◌++◌, length, take, drop, replicate, Some, None, Option, slice_index_or}
-use Rattle.std.proofs.Math.Seq.{paste}
+use Rattle.std.specs.Prelude.{◌≡◌, ℕ, suc, ◌+◌, ◌<◌, ◌≤◌, Bool, true, cond, ◌&&◌, List, ◌++◌, length, take, drop, replicate, Some, None, Option, slice_index_or}
 use Rattle.theory.specs.declared.Redraw.{Redraw}
 use Rattle.theory.specs.declared.Entry.{Entry}
 use Rattle.theory.specs.declared.Way.{Way}
@@ -11,6 +10,7 @@ use Rattle.theory.specs.Tables.{rooted, listed}
 use Rattle.theory.specs.Order.{blank_entry}
 use Rattle.theory.specs.Books.{padded}
 use Rattle.theory.specs.Searches.{unsettled, value_at, Run}
+use Rattle.strips.specs.Strips.{Added}
 
 -- the sheet if it is unsettled and better than the one found so far, else that one
 abbrev pub nearer_of : {V : Type 0} → Meaning V → List V → List ℕ → ℕ → Option ℕ → Option ℕ
@@ -22,11 +22,6 @@ pub record Ready {V : Type 0} (m : Meaning V) (n : ℕ) (rs : List Redraw) (es :
   pub register : Register n rs
   pub root_below : r < n
   pub table : es ≡ listed m n (rooted m r (best m n rs))
-
--- the entries es written into xs from a place on: the place after them, or nothing if they do not fit
-abbrev pub Added : {X : Type 0} → List X → ℕ → List X → Option ℕ → List X → Type 0
-Added xs place es None ys = length xs < place + length es
-Added xs place es (Some end) ys = (end ≡ place + length es) × (end ≤ length xs) × (ys ≡ paste xs place es (length es))
 
 -- the run of one way was written into the spare strip, or does not fit
 abbrev pub Gathered : {V : Type 0} → Meaning V → ℕ → List Redraw → ℕ → Way → List (Entry V) → ℕ → Option ℕ → List (Entry V) → Type 0

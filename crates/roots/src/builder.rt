@@ -4,10 +4,10 @@ ghost use Rattle.theory.specs.Measures.{Lawful};
 ghost use Rattle.roots.specs.Turns.{Buildable, BuiltRoot};
 
 use crate::gathering::gather_both;
-use crate::parts::{blank_front, part};
+use crate::parts::blank_front;
 use measures::Measure;
 use merging::merge;
-use strips::wipe;
+use strips::{part, wipe};
 use theory::{Entry, Redraw};
 
 /// Whether runs that end at `middle` and `end` find places after the first `count`.

@@ -1,7 +1,7 @@
 // The new entries that a search has found, written into the spare strip in order.
 ghost use Rattle.std.specs.Prelude.{◌≡◌, ◌≤◌, ◌&&◌, length, ◌==◌, nat_lt, slice_index_or};
 ghost use Rattle.theory.specs.Searches.{new_entry as entry_of, fresh_at, fresh_below};
-ghost use Rattle.roots.specs.Turns.{Added};
+ghost use Rattle.strips.specs.Strips.{Added};
 
 use crate::search::RELAXED;
 use measures::Measure;

@@ -3,7 +3,8 @@
 -- The rules are over the list of cells and the count, so that the cells can be
 -- lent to other code while the rules are kept.
 
-use Rattle.std.specs.Prelude.{◌≡◌, ℕ, ◌-◌, ◌≤◌, List, ◌++◌, length, take, drop, replicate}
+use Rattle.std.specs.Prelude.{◌≡◌, ℕ, ◌+◌, ◌-◌, ◌<◌, ◌≤◌, List, ◌++◌, length, take, drop, replicate, Some, None, Option}
+use Rattle.std.proofs.Math.Seq.{paste}
 
 -- the cells in use
 abbrev pub used : {T : Type 0} → List T → ℕ → List T
@@ -16,3 +17,8 @@ Held blank cells count = (count ≤ length cells) × (drop count cells ≡ repli
 -- the cells with each one from a place on made blank
 abbrev pub wiped : {T : Type 0} → List T → ℕ → T → List T
 wiped cells from blank = take from cells ++ replicate (length cells - from) blank
+
+-- the records es written into xs from a place on: the place after them, or nothing if they do not fit
+abbrev pub Added : {X : Type 0} → List X → ℕ → List X → Option ℕ → List X → Type 0
+Added xs place es None ys = length xs < place + length es
+Added xs place es (Some end) ys = (end ≡ place + length es) × (end ≤ length xs) × (ys ≡ paste xs place es (length es))

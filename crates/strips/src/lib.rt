@@ -1,7 +1,7 @@
 //! Strips of lent memory: slices of records with a count of those in use.
 #![tactic(auto)]
 
-ghost use Rattle.std.specs.Prelude.{◌≡◌, ◌+◌, ◌<◌, ◌≤◌, min, true, false, [], ◌∷◌, ◌++◌, length, replicate, if◌then◌else◌, nat_lt, slice_index_or, slice_set};
+ghost use Rattle.std.specs.Prelude.{◌≡◌, ◌+◌, ◌-◌, ◌<◌, ◌≤◌, min, true, false, [], ◌∷◌, ◌++◌, length, replicate, if◌then◌else◌, nat_lt, slice_index_or, slice_range, slice_set};
 ghost use Rattle.strips.specs.Strips.{Held, used, wiped};
 
 /// The record at a place, or `otherwise` past the end.
@@ -26,6 +26,17 @@ pub fn wipe<T: Copy>(xs: &mut [T], from: usize, blank: T)
 {
     for i in from..xs.len() {
         xs[i] = blank;
+    }
+}
+
+/// The records from one place up to another; nothing if there is no such part.
+pub fn part<T>(xs: &[T], from: usize, to: usize) -> &[T]
+    ensures { from ≤ to → to ≤ length xs.now → result.now ≡ slice_range xs.now from to }
+{
+    if from <= to && to <= xs.len() {
+        &xs[from..to]
+    } else {
+        &xs[0..0]
     }
 }
 

@@ -4,5 +4,5 @@
 mod keys;
 mod lookups;
 
-pub use keys::{first_at, key};
+pub use keys::{first_at, ins_of, key, outs_of};
 pub use lookups::{answer, best_over_seniors, find, walk};

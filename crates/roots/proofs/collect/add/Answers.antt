@@ -1,8 +1,8 @@
 use Rattle.std.proofs.Common.{◌+◌, ◌&&◌, eqb, ltb, length, get_or, set, Some, sym, refl, ap, ◌∙◌, subst}
 use Rattle.std.proofs.lemmas.List.{length-set}
 use Rattle.theory.specs.Searches.{new_entry, fresh_at}
-use Rattle.roots.specs.Turns.{Added}
-use Rattle.roots.proofs.Steps.{added_none, added_one}
+use Rattle.strips.specs.Strips.{Added}
+use Rattle.strips.proofs.Adding.{added_none, added_one}
 use Rattle.roots.proofs.collect.add.Goals as goal
 
 pub returns-then-not-found : goal.returns-then-not-found

@@ -1,8 +1,9 @@
 use Rattle.std.proofs.Common.{suc, ◌≤◌, length, Some, sym, refl, ◌∙◌, subst, add-one, arith}
 use Rattle.std.proofs.lemmas.List.Edits.{paste_none}
 use Rattle.theory.specs.Searches.{fresh_at, fresh_below}
-use Rattle.roots.specs.Turns.{Added}
-use Rattle.roots.proofs.Steps.{added_more, added_stop, fresh_longer}
+use Rattle.strips.specs.Strips.{Added}
+use Rattle.strips.proofs.Adding.{added_more, added_stop}
+use Rattle.roots.proofs.Steps.{fresh_longer}
 use Rattle.roots.proofs.collect.collect.Goals as goal
 
 pub loop-sheet-init : goal.loop-sheet-init

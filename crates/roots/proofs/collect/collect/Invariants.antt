@@ -1,6 +1,6 @@
 use Rattle.std.proofs.Common.{◌≡◌, ◌≤◌, length, Some}
 use Rattle.theory.specs.Searches.{fresh_below}
-use Rattle.roots.specs.Turns.{Added}
+use Rattle.strips.specs.Strips.{Added}
 use Rattle.roots.proofs.collect.collect.Given as goal
 
 -- the entries of the sheets so far are written

@@ -1,0 +1,4 @@
+pub mod Offering
+pub mod SheetLists
+pub mod Generated
+pub mod LaidRows
