@@ -1,5 +1,5 @@
 -- The list of a sheet: the entries of a table whose keys lie between two bounds, and which entries those are.
-use Rattle.std.proofs.Common.{◌≡◌, ℕ, ◌+◌, ◌-◌, ◌<◌, ◌≤◌, ◌⊎◌, List, length, get_or, sym, ap, ◌∙◌, subst, ⊎_elim, arith}
+use Rattle.std.proofs.Common.{◌≡◌, ℕ, ◌+◌, ◌-◌, ◌<◌, ◌≤◌, List, length, get_or, sym, ap, ◌∙◌, subst, ⊎_elim, arith}
 use Rattle.std.proofs.lemmas.List.Edits.{length-between, get_or-between}
 use Rattle.std.proofs.lemmas.Bool.{cases_lt}
 use Rattle.theory.specs.declared.Entry.{Entry}
@@ -7,7 +7,7 @@ use Rattle.theory.specs.declared.Way.{Way}
 use Rattle.theory.specs.declared.Way.TheVariants.{Out, In}
 use Rattle.theory.specs.Measures.{Meaning}
 use Rattle.theory.specs.Chains.{Among}
-use Rattle.theory.specs.Order.{key, key_of, LawfulEntry}
+use Rattle.theory.specs.Order.{key_of, LawfulEntry}
 use Rattle.theory.proofs.Members.{among_get_or, among_place}
 use Rattle.theory.proofs.SortedTables.{key_out, key_in}
 use Rattle.tables.specs.Places.{Part}

@@ -1,18 +1,15 @@
 -- Both runs in the spare strip, one after the other, or too long for it.
-use Rattle.std.proofs.Common.{◌≡◌, ℕ, ◌+◌, ◌<◌, ◌≤◌, List, [], ◌∷◌, ◌++◌, length, take, drop, replicate, Some, None, sym, refl, ap, ◌∙◌, subst, arith}
+use Rattle.std.proofs.Common.{◌≡◌, ℕ, ◌+◌, ◌<◌, ◌≤◌, List, ◌++◌, length, take, drop, replicate, Some, None, sym, ap, ◌∙◌, arith}
 use lib.Seq.{paste}
 use Rattle.std.proofs.lemmas.List.{length-append, length-replicate, take_all}
-use Rattle.std.proofs.lemmas.List.Edits.{take-paste, drop-paste, length-paste}
+use Rattle.std.proofs.lemmas.List.Edits.{take-paste, drop-paste}
 use Rattle.theory.specs.declared.Redraw.{Redraw}
 use Rattle.theory.specs.declared.Entry.{Entry}
-use Rattle.theory.specs.declared.Way.{Way}
 use Rattle.theory.specs.declared.Way.TheVariants.{Out, In}
 use Rattle.theory.specs.Measures.{Meaning, Lawful}
-use Rattle.theory.specs.Searches.{Run}
 use Rattle.theory.proofs.Growing as growing
-use Rattle.strips.specs.Strips.{Added}
-use Rattle.roots.specs.Turns.{Ready, Gathered, Both, BothGathered}
-use Rattle.strips.proofs.Adding.{added_more, added_stop}
+use Rattle.roots.specs.Turns.{Ready, Gathered, BothGathered}
+use Rattle.strips.proofs.Adding.{added_more}
 
 -- blank again, and as long as before
 pub blank_again : {X : Type 0} (xs ys : List X) (n : ℕ) (b : X) → xs ≡ replicate n b → ys ≡ replicate (length xs) b → ys ≡ replicate n b

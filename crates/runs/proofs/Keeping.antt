@@ -1,5 +1,5 @@
 -- Every step keeps a book sound, and with fewer rounds than sheets while it is in rounds, whichever call it is, taken or refused.
-use Rattle.std.proofs.Common.{◌≡◌, Bool, true, false, cond, suc, Some, None, Option, sym, refl, subst}
+use Rattle.std.proofs.Common.{◌≡◌, Bool, true, false, suc, Some, None, Option, sym, refl, subst}
 use Rattle.theory.specs.declared.Phase as phases
 use Rattle.theory.specs.declared.Refusal.{Refusal}
 use Rattle.theory.specs.Measures.{Meaning, Lawful}

@@ -1,18 +1,16 @@
 -- The promise over all runs: what holds at every point of a run, by induction on the run, and the promise from it.
-use Rattle.std.proofs.Common.{◌≡◌, ℕ, suc, ◌<◌, ◌≤◌, Bool, true, false, cond, not, ◌&&◌, eqb, ltb, leb, List, [], ◌∷◌, ◌++◌, Some, None, Option, sym, refl, ap, ◌∙◌, subst, ap₂, append-nil, arith}
+use Rattle.std.proofs.Common.{◌≡◌, ℕ, suc, ◌<◌, ◌≤◌, Bool, true, false, not, ◌&&◌, ltb, leb, [], ◌∷◌, ◌++◌, Some, None, Option, sym, refl, ap, ◌∙◌, subst, ap₂, append-nil, arith}
 use Rattle.std.proofs.lemmas.Bool.{true≢false, not-false, and_parts, leb-true, ltb-false}
-use Rattle.theory.specs.declared.Redraw.{Redraw}
-use Rattle.theory.specs.declared.Entry.{Entry}
 use Rattle.theory.specs.declared.Phase as phases
 use Rattle.theory.specs.declared.Phase.{Phase}
 use Rattle.theory.specs.declared.Refusal.{Refusal}
 use Rattle.theory.specs.declared.Refusal.TheVariants.{SheetCount, RegisterPlaces, TablePlaces, WantOfPlaces}
-use Rattle.theory.specs.Measures.{Meaning, Lawful, Strict}
-use Rattle.theory.specs.Chains.{BestOver, Register, best}
-use Rattle.theory.specs.Books.{View, Call, Answer, enter, clear, round, root, look, list, refused, redraw, new_book, making_refusal, Sound, Stands, Callable, Stepped, HonestRight, AgreeOnBest, refusal, unless, taken_view, taken_answer, round_refusal, root_refusal, round_ends, root_ends, rounds_done, roots_done, phase_after}
+use Rattle.theory.specs.Measures.{Meaning, Lawful}
+use Rattle.theory.specs.Chains.{Register, best}
+use Rattle.theory.specs.Books.{View, Call, Answer, enter, clear, round, root, look, list, refused, redraw, new_book, making_refusal, Sound, Stands, Stepped, refusal, unless, taken_view, taken_answer, round_refusal, root_refusal, round_ends, root_ends, rounds_done, roots_done, phase_after}
 use Rattle.theory.proofs.Best as bests
 use Rattle.theory.proofs.Guarantees.{guarantee}
-use Rattle.runs.specs.Runs.{History, Run, no_call, then_call, was_taken, gives, accepted, roots_since, rounds_since, count_root, count_round, LedTo, HonestAndRight, FinishedBook, Promised, Promise}
+use Rattle.runs.specs.Runs.{History, Run, no_call, then_call, was_taken, accepted, roots_since, rounds_since, LedTo, HonestAndRight, FinishedBook, Promise}
 use Rattle.runs.specs.Turns.{FewRounds}
 use Rattle.runs.proofs.Opening.{passed}
 use Rattle.runs.proofs.Rooting as rooting

@@ -1,6 +1,6 @@
 -- The next root of a sound book, and the sound book that an accepted root leaves.
-use Rattle.std.proofs.Common.{◌≡◌, ℕ, suc, ◌<◌, ◌≤◌, Bool, true, false, cond, eqb, ltb, List, [], ◌∷◌, length, Some, None, Option, sym, refl, ap, ◌∙◌, subst, ⊎_elim, arith}
-use Rattle.std.proofs.lemmas.Bool.{cases_Bool, cond-true, cond-false, ltb-true, ltb-false, eqb-true, eqb-false}
+use Rattle.std.proofs.Common.{◌≡◌, ℕ, suc, ◌<◌, ◌≤◌, Bool, true, false, eqb, ltb, List, [], ◌∷◌, length, Some, None, Option, sym, refl, ap, ◌∙◌, subst, ⊎_elim, arith}
+use Rattle.std.proofs.lemmas.Bool.{cases_Bool, cond-false, ltb-true, ltb-false, eqb-true, eqb-false}
 use Rattle.theory.specs.declared.Phase as phases
 use Rattle.theory.specs.declared.Phase.{Phase}
 use Rattle.theory.specs.declared.Refusal.{Refusal}
@@ -8,7 +8,7 @@ use Rattle.theory.specs.declared.Refusal.TheVariants.{WantOfPlaces}
 use Rattle.theory.specs.Measures.{Meaning, Lawful, some}
 use Rattle.theory.specs.Chains.{best}
 use Rattle.theory.specs.Tables.{Table, rooted, listed, pairs, entries_at}
-use Rattle.theory.specs.Books.{View, Sound, Stands, changed, root_entries, root_refusal, places_refusal, roots_done, root_ends, phase_after, taken_view, root, NothingFits}
+use Rattle.theory.specs.Books.{View, Sound, Stands, changed, root_entries, root_refusal, places_refusal, roots_done, phase_after, taken_view, root, NothingFits}
 use Rattle.theory.proofs.Orders as orders
 use Rattle.theory.proofs.Roots as roots
 use Rattle.theory.proofs.Guarantees as guarantees

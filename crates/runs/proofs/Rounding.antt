@@ -1,16 +1,14 @@
 -- The next round of a sound book under a strict measure, and the sound book that an accepted round leaves.
-use Rattle.std.proofs.Common.{◌≡◌, ℕ, zero, suc, ◌<◌, ◌≤◌, Bool, true, false, cond, ◌⊎◌, List, [], length, Some, None, Option, sym, refl, ap, ◌∙◌, subst, ap₂, inl, inr, ⊎_elim, arith}
+use Rattle.std.proofs.Common.{◌≡◌, ℕ, zero, suc, ◌<◌, ◌≤◌, Bool, true, false, [], length, None, sym, refl, ap, ◌∙◌, subst, ap₂, ⊎_elim, arith}
 use Rattle.std.proofs.lemmas.Bool.{both_ways, cases_lt, cond_both}
-use Rattle.theory.specs.declared.Redraw.{Redraw}
 use Rattle.theory.specs.declared.Entry.{Entry}
 use Rattle.theory.specs.declared.Phase as phases
 use Rattle.theory.specs.declared.Phase.{Phase}
-use Rattle.theory.specs.declared.Refusal.{Refusal}
 use Rattle.theory.specs.Measures.{Meaning, Lawful, Strict, Value, some}
-use Rattle.theory.specs.Chains.{Among, best}
-use Rattle.theory.specs.Tables.{Table, finished, listed, held}
+use Rattle.theory.specs.Chains.{Among}
+use Rattle.theory.specs.Tables.{Table, listed}
 use Rattle.theory.specs.Rounds.{after_rounds, generated_after, pruned}
-use Rattle.theory.specs.Books.{View, Sound, Stands, changed, round_entries, round_refusal, places_refusal, generated_size, rounds_done, round_ends, same_entries, phase_after, taken_view, round}
+use Rattle.theory.specs.Books.{View, Sound, Stands, round_entries, round_refusal, generated_size, rounds_done, round_ends, same_entries, phase_after, taken_view, round}
 use Rattle.theory.proofs.Orders as orders
 use Rattle.theory.proofs.Listings as listings
 use Rattle.theory.proofs.SortedTables.{listed_sorted}
