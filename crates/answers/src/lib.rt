@@ -1,12 +1,13 @@
 // The lines that are printed. Each function appends one line to the text, or fails for want of memory.
-ghost use Rattle.std.specs.Prelude.{◌≡◌, ◌++◌, is_ok, string_bytes, OnOk};
+#![tactic(auto)]
+
+ghost use Rattle.std.specs.Prelude.{◌≡◌, ◌++◌, string_bytes, OnOk};
 ghost use Rattle.answers.specs.Printed.{layer_text, progress_text, refused_line, line_refusal, book_refusal, numbered_line, opening_line, redraw_line, clear_line, built_line, round_line, root_line, look_line, entry_line};
 ghost use Rattle.theory.specs.Refusals.{refusal_number};
 
 use orders::refusals::LineRefusal;
 use orders::vocabulary::{FirstWord, Kind};
 use std::alloc::AllocError;
-use std::fmt;
 use theory::{Progress, Refusal};
 
 // Who refuses a line.
@@ -62,16 +63,6 @@ pub fn refusal_code(refusal: Refusal) -> u32
     }
 }
 
-// A text fails only for want of memory.
-fn written(res: fmt::Result) -> Result<(), AllocError>
-    ensures { is_ok result ≡ is_ok res }
-{
-    match res {
-        Ok(()) => Ok(()),
-        Err(_) => Err(AllocError),
-    }
-}
-
 // A refusal of the line with this number, counted from 1: its layer, its first faulty word and its number.
 pub fn refused(
     out: &mut String,
@@ -83,7 +74,7 @@ pub fn refused(
     ensures { OnOk result (string_bytes out.new ≡ string_bytes out.old ++ refused_line line layer word number) }
 {
     let layer = layer.text();
-    written(writeln!(out, "refused {line} {layer} {word} {number}"))
+    writeln!(out, "refused {line} {layer} {word} {number}")
 }
 
 // A refusal by the line language.
@@ -105,7 +96,7 @@ fn numbered(out: &mut String, word: FirstWord, number: usize) -> Result<(), Allo
     ensures { OnOk result (string_bytes out.new ≡ string_bytes out.old ++ numbered_line word number) }
 {
     let word = word.text();
-    written(writeln!(out, "{word} {number}"))
+    writeln!(out, "{word} {number}")
 }
 
 // An opening of a book with so many sheets.
@@ -140,7 +131,7 @@ fn built(
 {
     let word = builder.text();
     let progress = progress_text(progress);
-    written(writeln!(out, "{word} {number} {progress}"))
+    writeln!(out, "{word} {number} {progress}")
 }
 
 // A round that was laid, with its number and how far the book is built.
@@ -162,12 +153,12 @@ pub fn look(out: &mut String, value: &str) -> Result<(), AllocError>
     ensures { OnOk result (string_bytes out.new ≡ string_bytes out.old ++ look_line value.now) }
 {
     let word = FirstWord::Look.text();
-    written(writeln!(out, "{word} {value}"))
+    writeln!(out, "{word} {value}")
 }
 
 // An entry of the table, by its value's text.
 pub fn entry(out: &mut String, from: u32, to: u32, value: &str) -> Result<(), AllocError>
     ensures { OnOk result (string_bytes out.new ≡ string_bytes out.old ++ entry_line from to value.now) }
 {
-    written(writeln!(out, "entry {from} {to} {value}"))
+    writeln!(out, "entry {from} {to} {value}")
 }

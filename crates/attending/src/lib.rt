@@ -1,8 +1,10 @@
 // One command, carried out on a book and answered.
+#![tactic(auto)]
+
 ghost use Rattle.std.specs.Prelude.{◌≡◌, string_bytes, OnOk};
 ghost use Rattle.answers.specs.Printed.{entry_line};
 ghost use Rattle.attending.specs.Attending.{Told, ToldAs, entries_text, answer_text, printed, attended};
-ghost use Rattle.theory.specs.Books.{answered, moved, enter as enter-call, clear as clear-call, root as root-call, look as look-call, list as list-call};
+ghost use Rattle.theory.specs.Books.{answered, moved, enter as enter_call, clear as clear_call, root as root_call, look as look_call, list as list_call};
 
 use orders::commands::Command;
 use orders::refusals::LineRefusal;
@@ -22,8 +24,8 @@ fn enter<B: PricedBook>(
     grade: u32,
     out: &mut String,
 ) -> Result<(), AllocError>
-    ensures moves { view book.new ≡ moved Value-as-Measure.meaning (view book.old) (enter-call from to minutes grade) }
-    ensures tells { OnOk result (Told (string_bytes out.old) (λ text. answer_text FirstWord.Redraw text number (answered Value-as-Measure.meaning (view book.old) (enter-call from to minutes grade))) (string_bytes out.new)) }
+    ensures moves { B.view book.new ≡ moved B.Value.Measure.meaning (B.view book.old) (enter_call from to minutes grade) }
+    ensures tells { OnOk result (Told (string_bytes out.old) (λ text. answer_text FirstWord.Redraw text number (answered B.Value.Measure.meaning (B.view book.old) (enter_call from to minutes grade))) (string_bytes out.new)) }
 {
     match book.enter(from, to, minutes, grade) {
         Ok(held) => answers::redraw(out, held as usize),
@@ -33,8 +35,8 @@ fn enter<B: PricedBook>(
 
 // Clears the book.
 fn clear<B: PricedBook>(book: &mut B, number: usize, out: &mut String) -> Result<(), AllocError>
-    ensures moves { view book.new ≡ moved Value-as-Measure.meaning (view book.old) clear-call }
-    ensures tells { OnOk result (Told (string_bytes out.old) (λ text. answer_text FirstWord.Clear text number (answered Value-as-Measure.meaning (view book.old) clear-call)) (string_bytes out.new)) }
+    ensures moves { B.view book.new ≡ moved B.Value.Measure.meaning (B.view book.old) clear_call }
+    ensures tells { OnOk result (Told (string_bytes out.old) (λ text. answer_text FirstWord.Clear text number (answered B.Value.Measure.meaning (B.view book.old) clear_call)) (string_bytes out.new)) }
 {
     book.clear();
     answers::clear(out)
@@ -42,8 +44,8 @@ fn clear<B: PricedBook>(book: &mut B, number: usize, out: &mut String) -> Result
 
 // Lays the next round; where the book is not built by rounds, the line language refuses the line.
 fn round<B: PricedBook>(book: &mut B, number: usize, out: &mut String) -> Result<(), AllocError>
-    ensures moves { view book.new ≡ attended Value-as-Measure.meaning rounds (view book.old) Command.Round }
-    ensures tells { OnOk result (Told (string_bytes out.old) (λ text. printed Value-as-Measure.meaning rounds text number (view book.old) Command.Round) (string_bytes out.new)) }
+    ensures moves { B.view book.new ≡ attended B.Value.Measure.meaning B.rounds (B.view book.old) Command.Round }
+    ensures tells { OnOk result (Told (string_bytes out.old) (λ text. printed B.Value.Measure.meaning B.rounds text number (B.view book.old) Command.Round) (string_bytes out.new)) }
 {
     match book.round_if_taken() {
         Some(Ok(built)) => answers::round(out, built.number as usize, built.progress),
@@ -54,8 +56,8 @@ fn round<B: PricedBook>(book: &mut B, number: usize, out: &mut String) -> Result
 
 // Builds the next root.
 fn root<B: PricedBook>(book: &mut B, number: usize, out: &mut String) -> Result<(), AllocError>
-    ensures moves { view book.new ≡ moved Value-as-Measure.meaning (view book.old) root-call }
-    ensures tells { OnOk result (Told (string_bytes out.old) (λ text. answer_text FirstWord.Root text number (answered Value-as-Measure.meaning (view book.old) root-call)) (string_bytes out.new)) }
+    ensures moves { B.view book.new ≡ moved B.Value.Measure.meaning (B.view book.old) root_call }
+    ensures tells { OnOk result (Told (string_bytes out.old) (λ text. answer_text FirstWord.Root text number (answered B.Value.Measure.meaning (B.view book.old) root_call)) (string_bytes out.new)) }
 {
     match book.root() {
         Ok(built) => answers::root(out, built.number as usize, built.progress),
@@ -74,7 +76,7 @@ fn look<B: PricedBook>(
 ) -> Result<(), AllocError>
 where
     B::Value: Display,
-    ensures { OnOk result (ToldAs output (string_bytes out.old) (λ text. answer_text FirstWord.Look text number (answered B.Value.Measure.meaning (view book.now) (look-call from to))) (string_bytes out.new)) }
+    ensures { OnOk result (ToldAs B.Value.Display.output (string_bytes out.old) (λ text. answer_text FirstWord.Look text number (answered B.Value.Measure.meaning (B.view book.now) (look_call from to))) (string_bytes out.new)) }
 {
     match book.look(from, to) {
         Ok(value) => {
@@ -91,7 +93,7 @@ fn print_entry<V: Display + Copy>(
     entry: Entry<V>,
     out: &mut String,
 ) -> Result<(), AllocError>
-    ensures { OnOk result (ToldAs output (string_bytes out.old) (λ text. entry_line entry.from entry.to (text entry.value)) (string_bytes out.new)) }
+    ensures { OnOk result (ToldAs V.Display.output (string_bytes out.old) (λ text. entry_line entry.from entry.to (text entry.value)) (string_bytes out.new)) }
 {
     let value = entry.value;
     let text = format!(in heap; "{value}")?;
@@ -109,7 +111,7 @@ fn print_entries<V: Display + Copy>(
     entries: &[Entry<V>],
     out: &mut String,
 ) -> Result<(), AllocError>
-    ensures { OnOk result (ToldAs output (string_bytes out.old) (λ text. entries_text text entries.now) (string_bytes out.new)) }
+    ensures { OnOk result (ToldAs V.Display.output (string_bytes out.old) (λ text. entries_text text entries.now) (string_bytes out.new)) }
 {
     for item in entries {
         print_entry(heap, *item, out)?;
@@ -126,7 +128,7 @@ fn list<B: PricedBook>(
 ) -> Result<(), AllocError>
 where
     B::Value: Display,
-    ensures { OnOk result (ToldAs output (string_bytes out.old) (λ text. answer_text FirstWord.List text number (answered B.Value.Measure.meaning (view book.now) list-call)) (string_bytes out.new)) }
+    ensures { OnOk result (ToldAs B.Value.Display.output (string_bytes out.old) (λ text. answer_text FirstWord.List text number (answered B.Value.Measure.meaning (B.view book.now) list_call)) (string_bytes out.new)) }
 {
     match book.list() {
         Ok(entries) => print_entries(heap, entries, out),
@@ -144,8 +146,8 @@ pub fn attend<B: PricedBook>(
 ) -> Result<(), AllocError>
 where
     B::Value: Display,
-    ensures moves { view book.new ≡ attended B.Value.Measure.meaning rounds (view book.old) command }
-    ensures tells { OnOk result (ToldAs output (string_bytes out.old) (λ text. printed B.Value.Measure.meaning rounds text number (view book.old) command) (string_bytes out.new)) }
+    ensures moves { B.view book.new ≡ attended B.Value.Measure.meaning B.rounds (B.view book.old) command }
+    ensures tells { OnOk result (ToldAs B.Value.Display.output (string_bytes out.old) (λ text. printed B.Value.Measure.meaning B.rounds text number (B.view book.old) command) (string_bytes out.new)) }
 {
     match command {
         Command::Open(_, _) => Ok(()),

@@ -6,7 +6,7 @@ use mathlib.Core.Logic.{∥∥₁_elim}
 use mathlib.Core.HLevel.{×_prop}
 use native.Mathlib.Nat.{ℕ_set}
 use native.Mathlib.Bridge.{le_prop}
-use Rattle.std.specs.List.{AllByRecursion as All}
+use Rattle.std.specs.List.{AllByRecursion}
 use Rattle.theory.specs.declared.Redraw.{Redraw}
 use Rattle.theory.specs.declared.Entry.{Entry}
 use Rattle.theory.specs.declared.Phase.{Phase}
@@ -24,7 +24,7 @@ redraw_set x y p q = λ i j. record {
   grade = ℕ_set x.grade y.grade (ap (λ r. r.grade) p) (ap (λ r. r.grade) q) i j;
 }
 
-all_prop : {X : Type 0} (P : X → Type 0) → ((x : X) → IsProp (P x)) → (xs : List X) → IsProp (All P xs)
+all_prop : {X : Type 0} (P : X → Type 0) → ((x : X) → IsProp (P x)) → (xs : List X) → IsProp (AllByRecursion P xs)
 all_prop P h [] = λ p q. refl
 all_prop P h (x ∷ xs) = ×_prop (h x) (all_prop P h xs)
 

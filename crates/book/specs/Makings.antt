@@ -1,10 +1,11 @@
 -- The making of a book: the slices that were lent go into what was checked, and from there into the book.
 use Rattle.std.specs.Prelude.{◌≡◌, ℕ, ◌≤◌, List}
+use Rattle.measures.specs.declared.measure.Measure.{Ghosts}
 use Rattle.book.specs.declared.book.Book.{Book}
 use Rattle.book.specs.declared.checked.Checked.{Checked}
 
 -- the book holds the very slices that were checked
-pub record MadeOver {M : Type 0} (c : Checked M) (b : Book M) : Type 0 where
+pub record MadeOver {M : Type 0} {g : Ghosts M} (c : Checked M g) (b : Book M) : Type 0 where
   pub register_same : b.register.cells.ghost_name ≡ c.register.ghost_name
   pub table_same : b.table.cells.ghost_name ≡ c.table.ghost_name
   pub spare_same : b.spare.cells.ghost_name ≡ c.spare.ghost_name

@@ -1,6 +1,6 @@
 // Enter and clear: the calls that open the book.
 ghost use Rattle.std.specs.Prelude.{◌≡◌, suc, ◌≤◌, [], ◌∷◌, ◌++◌, length, take, Ok, Err};
-ghost use Rattle.theory.specs.Books.{enter as enter-call, clear as clear-call, cleared, enter_answer, enter_refusal, redraw as redraw-of, changed, padded};
+ghost use Rattle.theory.specs.Books.{enter as enter_call, clear as clear_call, cleared, enter_answer, enter_refusal, redraw as redraw_of, changed, padded};
 ghost use Rattle.book.specs.Views.{view, Kept, Called, SameSlices, refusal_in};
 ghost use Rattle.book.specs.Registers.{Takes, Room, Padded, Appended};
 
@@ -41,7 +41,7 @@ impl<'r, 't, 's, 'w, 'm, M: Measure> Book<'r, 't, 's, 'w, 'm, M> {
     /// The redraw that an enter gives, if the book takes it.
     fn admit(&self, from: u32, to: u32, minutes: u32, grade: u32) -> Result<Redraw, Refusal>
         ensures refusal { refusal_in result ≡ enter_refusal (view self.now) from to minutes grade }
-        ensures admitted { elim result [ Ok d ↦ (d ≡ redraw-of from to minutes grade) × Takes (view self.now) d | Err _ ↦ Unit {0} ] }
+        ensures admitted { elim result [ Ok d ↦ (d ≡ redraw_of from to minutes grade) × Takes (view self.now) d | Err _ ↦ Unit {0} ] }
     {
         let (from, to) = self.pair(from, to)?;
         if from == to {
@@ -77,7 +77,7 @@ impl<'r, 't, 's, 'w, 'm, M: Measure> Book<'r, 't, 's, 'w, 'm, M> {
 
     /// Enters a redraw, empties the table and opens the book; answers the number of redraws held.
     pub fn enter(&mut self, from: u32, to: u32, minutes: u32, grade: u32) -> Result<u32, Refusal>
-        ensures called { Called M.Measure.meaning self.old (enter-call from to minutes grade) (enter_answer result) self.new }
+        ensures called { Called M.Measure.meaning self.old (enter_call from to minutes grade) (enter_answer result) self.new }
         ensures slices { SameSlices self.old self.new }
     {
         let redraw = self.admit(from, to, minutes, grade)?;
@@ -86,7 +86,7 @@ impl<'r, 't, 's, 'w, 'm, M: Measure> Book<'r, 't, 's, 'w, 'm, M> {
 
     /// Empties the table and opens the book; never refused.
     pub fn clear(&mut self)
-        ensures called { Called M.Measure.meaning self.old clear-call cleared self.new }
+        ensures called { Called M.Measure.meaning self.old clear_call cleared self.new }
         ensures slices { SameSlices self.old self.new }
     {
         empty(&mut self.table, blank_entry());

@@ -1,4 +1,5 @@
 // The book of redraws: one value over five lent strips, the making of it, and the calls on it.
+#![tactic(auto)]
 
 mod book;
 mod checked;

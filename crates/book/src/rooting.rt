@@ -1,6 +1,6 @@
 // Root: the builder's turn that adds the entries of the next root.
 ghost use Rattle.std.specs.Prelude.{◌≡◌, suc, ◌<◌, min, true, false, length, Some, Ok, Err};
-ghost use Rattle.theory.specs.Books.{root as root-call, built_answer, root_refusal, root_entries, NothingFits};
+ghost use Rattle.theory.specs.Books.{root as root_call, built_answer, root_refusal, root_entries, NothingFits};
 ghost use Rattle.runs.specs.Turns.{NextRoot};
 ghost use Rattle.book.specs.Views.{view, Kept, Called, SameSlices};
 ghost use Rattle.book.specs.Building.{PutIn, LeftOut};
@@ -66,7 +66,7 @@ impl<'r, 't, 's, 'w, 'm, M: Measure> Book<'r, 't, 's, 'w, 'm, M> {
     /// Builds the next root, from sheet 0 on: afterwards the table is every finished entry whose senior sheet is the root or lower.
     /// Answers how many roots are done and whether the book is finished.
     pub fn root(&mut self) -> Result<Built, Refusal>
-        ensures called { Called M.Measure.meaning self.old root-call (built_answer result) self.new }
+        ensures called { Called M.Measure.meaning self.old root_call (built_answer result) self.new }
         ensures wanting { result ≡ Err Refusal.WantOfPlaces → Kept M.Measure.meaning self.old → NothingFits M.Measure.meaning (view self.old) }
         ensures slices { SameSlices self.old self.new }
     {

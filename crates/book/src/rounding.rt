@@ -1,6 +1,6 @@
 // Round: the builder's turn that lays the table of the next round, under strict measures only.
 ghost use Rattle.std.specs.Prelude.{◌≡◌, ℕ, ◌<◌, ◌≤◌, Some, None, Ok, Err, ◌==◌};
-ghost use Rattle.theory.specs.Books.{round as round-call, built_answer, round_refusal, round_entries, round_ends, generated_size};
+ghost use Rattle.theory.specs.Books.{round as round_call, built_answer, round_refusal, round_entries, round_ends, generated_size};
 ghost use Rattle.runs.specs.Turns.{NextRound};
 ghost use Rattle.book.specs.Views.{view, Kept, Called, SameSlices};
 ghost use Rattle.book.specs.Building.{PutIn, LeftOut};
@@ -56,7 +56,7 @@ impl<'r, 't, 's, 'w, 'm, M: Strict> Book<'r, 't, 's, 'w, 'm, M> {
     /// Lays the next round's table and strikes from it what senior sheets answer as well (hop doubling by generating and pruning).
     /// Answers the rounds accepted since the book was last open and whether it is finished, which it is if the round changed nothing.
     pub fn round(&mut self) -> Result<Built, Refusal>
-        ensures called { Called M.Measure.meaning self.old round-call (built_answer result) self.new }
+        ensures called { Called M.Measure.meaning self.old round_call (built_answer result) self.new }
         ensures slices { SameSlices self.old self.new }
     {
         let _strict = M::worsens();

@@ -31,7 +31,7 @@ fn open_and_serve<B: PricedBook>(
 ) -> Result<(), AllocError>
 where
     B::Value: Display,
-    ensures { OnOk result (Served B.Value.Measure.meaning rounds output lines.old.number (ahead lines.old.input.now lines.old.place) (view book.old) (view book.new) (string_bytes out.old ++ opening_line opening.kind opening.sheets) (string_bytes out.new)) }
+    ensures { OnOk result (Served B.Value.Measure.meaning B.rounds B.Value.Display.output lines.old.number (ahead lines.old.input.now lines.old.place) (B.view book.old) (B.view book.new) (string_bytes out.old ++ opening_line opening.kind opening.sheets) (string_bytes out.new)) }
 {
     answers::opening(out, opening.kind, opening.sheets)?;
     serve(heap, book, lines, out)

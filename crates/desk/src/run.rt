@@ -28,7 +28,7 @@ fn open_under<M: Opens>(
     lines: &mut Lines,
     out: &mut String,
 ) -> Result<bool, AllocError>
-    ensures opened { opening.kind ≡ kind → IfOk result (λ opened. Opened opening lines.old.number (ahead lines.old.input.now lines.old.place) opened (string_bytes out.old) (string_bytes out.new)) }
+    ensures opened { opening.kind ≡ M.kind → IfOk result (λ opened. Opened opening lines.old.number (ahead lines.old.input.now lines.old.place) opened (string_bytes out.old) (string_bytes out.new)) }
     ensures waits { IfOk result (λ opened. opened ≡ false → lines.new ≡ lines.old) }
 {
     let mut memory: Memory<M> = Memory::new(heap, opening.sheets)?;

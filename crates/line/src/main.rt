@@ -1,4 +1,6 @@
 // The line program: an order sheet on standard input, its answers on standard output.
+#![tactic(auto)]
+
 use anyhow::anyhow;
 use desk::run::run;
 use std::io::Read;

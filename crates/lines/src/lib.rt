@@ -1,6 +1,8 @@
 // The lines of an input.
+#![tactic(auto)]
+
 ghost use Rattle.std.specs.Prelude.{◌≡◌, ◌≤◌};
-ghost use Rattle.lines.specs.InputLines.{Gives, behind as place-behind};
+ghost use Rattle.lines.specs.InputLines.{Gives, behind as place_behind};
 
 use words::split::next_line;
 
@@ -22,7 +24,7 @@ pub struct Lines<'a> {
 
 // The place behind a line that ends at `end`.
 fn behind(input: &[u8], end: usize) -> usize
-    ensures { result ≡ place-behind input.now end }
+    ensures { result ≡ place_behind input.now end }
 {
     if end < input.len() { end + 1 } else { end }
 }

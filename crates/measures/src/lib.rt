@@ -1,4 +1,5 @@
 // Measures: what a redraw, the empty chain and none are worth, which of two values is better, and how two join.
+#![tactic(auto)]
 
 mod chain;
 mod measure;

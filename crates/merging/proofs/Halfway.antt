@@ -19,8 +19,8 @@ pub take_fewer : {X : Type 0} (p i : ℕ) (ss ts : List X) → p ≤ i → take 
 take_fewer p i ss ts l e = sym (take-take p i ss l) ∙ ap (take p) e ∙ take-take p i ts l
 
 -- an element of two lists with equal fronts
-pub get_d_front : {X : Type 0} (p i : ℕ) (ss ts : List X) (d : X) → p < i → take i ss ≡ take i ts → get_or ss p d ≡ get_or ts p d
-get_d_front {X} p i ss ts d l e = sym (get_or-take i ss p d l) ∙ ap (λ (us : List X). get_or us p d) e ∙ get_or-take i ts p d l
+pub get_or_front : {X : Type 0} (p i : ℕ) (ss ts : List X) (d : X) → p < i → take i ss ≡ take i ts → get_or ss p d ≡ get_or ts p d
+get_or_front {X} p i ss ts d l e = sym (get_or-take i ss p d l) ∙ ap (λ (us : List X). get_or us p d) e ∙ get_or-take i ts p d l
 
 -- the first i of the n entries of the table `old` and the first j of the run ys are still to come; ts is the table as it stands
 pub record Halfway {V : Type 0} (old : List (Entry V)) (n : ℕ) (ys : List (Entry V)) (i j : ℕ) (ts : List (Entry V)) : Type 0 where
@@ -66,7 +66,7 @@ strictly a b p q = omega arith
 module _ {V : Type 0} (old : List (Entry V)) (n : ℕ) (ys : List (Entry V)) (i j : ℕ) (ts : List (Entry V)) (h : Halfway old n ys i j ts) where
   -- the last entry of the table that is still to come
   here : (d : Entry V) → 0 < i → get_or ts (i - 1) d ≡ get_or (take n old) (i - 1) d
-  here d p = get_d_front (i - 1) i ts old d (omega arith) h.front ∙ sym (get_or-take n old (i - 1) d (omega (arith, h.first_within)))
+  here d p = get_or_front (i - 1) i ts old d (omega arith) h.front ∙ sym (get_or-take n old (i - 1) d (omega (arith, h.first_within)))
 
   -- the table after a write at p, the place before those that are written
   module _ (i' j' p : ℕ) (v : Entry V) (less : i' + j' ≡ p) (one : p + 1 ≡ i + j) (i'≤i : i' ≤ i) (j'≤j : j' ≤ j) where

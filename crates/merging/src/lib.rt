@@ -1,4 +1,6 @@
 // Merging: a run of new entries is put into a table in place, in the order of the table.
+#![tactic(auto)]
+
 ghost use Rattle.std.specs.Prelude.{◌≡◌, ◌+◌, ◌<◌, ◌≤◌, length, take, drop, nat_lt};
 ghost use Rattle.theory.specs.Order.{key_of};
 ghost use Rattle.merging.specs.Merging.{Mergeable, Merged};

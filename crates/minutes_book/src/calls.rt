@@ -1,6 +1,6 @@
 // The making of a book of minutes, and the calls on it.
 ghost use Rattle.std.specs.Prelude.{◌≡◌, length, true};
-ghost use Rattle.theory.specs.Books.{new_book, round as round-call, built_answer, Stepped};
+ghost use Rattle.theory.specs.Books.{new_book, round as round_call, built_answer, Stepped};
 ghost use Rattle.measures.specs.MinutesMeaning.{minutes_meaning};
 ghost use Rattle.book.specs.Views.{view};
 ghost use Rattle.book.specs.Makings.{MadeOver};
@@ -23,7 +23,7 @@ impl<'r, 't, 's, 'w, 'm> MinutesBook<'r, 't, 's, 'w, 'm> {
 
     /// Lays the next round, which is taken under strict measures only.
     pub fn round(&mut self) -> Result<Built, Refusal>
-        ensures { Stepped minutes_meaning (view self.old.book) round-call (built_answer result) (view self.new.book) }
+        ensures { Stepped minutes_meaning (view self.old.book) round_call (built_answer result) (view self.new.book) }
     {
         self.book.round()
     }

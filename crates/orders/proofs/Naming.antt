@@ -1,6 +1,6 @@
 -- Which first word a name spells: one word more that is compared.
 use Rattle.std.proofs.Common.{◌≡◌, ℕ, ◌+◌, ◌<◌, ◌≤◌, true, false, cond, List, [], ◌∷◌, length, get_or, drop, Some, None, sym, refl, ap, ◌∙◌, ⊎_elim}
-use Rattle.std.specs.List.{AllByRecursion as All}
+use Rattle.std.specs.List.{AllByRecursion}
 use Rattle.std.specs.Str.{bytes_eq}
 use Rattle.std.proofs.lemmas.Slice.Eq.{bytes_eq-Decides}
 use Rattle.std.proofs.lemmas.List.{at_drop_more, at_drop_all}
@@ -29,7 +29,7 @@ pub spelled_none : (name : List ℕ) (ws : List FirstWord) (i : ℕ) → length 
 spelled_none name ws i l h = sym (at_drop_all (spelled_so name) ws i l) ∙ h
 
 -- digits spell none of the words that are not made of digits
-spelled_by_digits : (name : List ℕ) (ws : List FirstWord) → only_digits name ≡ true → All (λ w. only_digits (spelling w) ≡ false) ws → None ≡ spelled_so name ws
+spelled_by_digits : (name : List ℕ) (ws : List FirstWord) → only_digits name ≡ true → AllByRecursion (λ w. only_digits (spelling w) ≡ false) ws → None ≡ spelled_so name ws
 spelled_by_digits name [] d a = refl
 spelled_by_digits name (w ∷ ws) d a =
     ⊎_elim

@@ -1,7 +1,9 @@
 // What every priced book promises, whatever its measure: each call is a step of the rules.
+#![tactic(auto)]
+
 ghost use Rattle.std.specs.Prelude.{◌≡◌, Bool, true, false, Some, None, Ok, Err};
 ghost use Rattle.theory.specs.Chains.{BestOver};
-ghost use Rattle.theory.specs.Books.{View, Stepped, Guarantee, NothingFits, enter as enter-call, clear as clear-call, round as round-call, root as root-call, look as look-call, list as list-call, cleared, refused, entries_are, enter_answer, built_answer, look_answer};
+ghost use Rattle.theory.specs.Books.{View, Stepped, Guarantee, NothingFits, enter as enter_call, clear as clear_call, round as round_call, root as root_call, look as look_call, list as list_call, cleared, refused, entries_are, enter_answer, built_answer, look_answer};
 ghost use Rattle.runs.specs.Runs.{Promise};
 
 use measures::Measure;
@@ -17,11 +19,11 @@ pub trait PricedBook {
 
     /// Enters a redraw, empties the table and opens the book; answers the number of redraws held.
     fn enter(&mut self, from: u32, to: u32, minutes: u32, grade: u32) -> Result<u32, Refusal>
-        ensures { Stepped Self.Value.Measure.meaning (view self.old) (enter-call from to minutes grade) (enter_answer result) (view self.new) };
+        ensures { Stepped Self.Value.Measure.meaning (view self.old) (enter_call from to minutes grade) (enter_answer result) (view self.new) };
 
     /// Empties the table and opens the book; never refused.
     fn clear(&mut self)
-        ensures { Stepped Self.Value.Measure.meaning (view self.old) clear-call cleared (view self.new) };
+        ensures { Stepped Self.Value.Measure.meaning (view self.old) clear_call cleared (view self.new) };
 
     /// Whether the book is built by rounds too, as the books of strict measures are.
     fn takes_rounds(&self) -> bool
@@ -29,21 +31,21 @@ pub trait PricedBook {
 
     /// Lays the next round where the book is built by rounds; nothing, with the book as it was, where it is not.
     fn round_if_taken(&mut self) -> Option<Result<Built, Refusal>>
-        ensures { elim result [ Some built ↦ (rounds ≡ true) × Stepped Self.Value.Measure.meaning (view self.old) round-call (built_answer built) (view self.new) | None ↦ (rounds ≡ false) × (view self.new ≡ view self.old) ] };
+        ensures { elim result [ Some built ↦ (rounds ≡ true) × Stepped Self.Value.Measure.meaning (view self.old) round_call (built_answer built) (view self.new) | None ↦ (rounds ≡ false) × (view self.new ≡ view self.old) ] };
 
     /// Builds the next root; refused for want of places only if no honest, right table fits.
     fn root(&mut self) -> Result<Built, Refusal>
-        ensures called { Stepped Self.Value.Measure.meaning (view self.old) root-call (built_answer result) (view self.new) }
+        ensures called { Stepped Self.Value.Measure.meaning (view self.old) root_call (built_answer result) (view self.new) }
         ensures wanting { result ≡ Err Refusal.WantOfPlaces → NothingFits Self.Value.Measure.meaning (view self.old) };
 
     /// The best measure from one sheet to another, over all chains of the redraws held.
     fn look(&self, from: u32, to: u32) -> Result<Self::Value, Refusal>
-        ensures called { Stepped Self.Value.Measure.meaning (view self.now) (look-call from to) (look_answer result) (view self.now) }
+        ensures called { Stepped Self.Value.Measure.meaning (view self.now) (look_call from to) (look_answer result) (view self.now) }
         ensures best { elim result [ Ok a ↦ BestOver Self.Value.Measure.meaning (view self.now).redraws from to a | Err _ ↦ Unit {0} ] };
 
     /// The entries of the finished table, with all that a finished book guarantees, and the promise over all runs of calls.
     fn list(&self) -> Result<&[Entry<Self::Value>], Refusal>
-        ensures called { Stepped Self.Value.Measure.meaning (view self.now) list-call (elim result [ Ok es ↦ entries_are es.now | Err e ↦ refused e ]) (view self.now) }
+        ensures called { Stepped Self.Value.Measure.meaning (view self.now) list_call (elim result [ Ok es ↦ entries_are es.now | Err e ↦ refused e ]) (view self.now) }
         ensures guarantee { elim result [ Ok _ ↦ Guarantee Self.Value.Measure.meaning (view self.now) | Err _ ↦ Unit {0} ] }
         ensures promise { Promise Self.Value.Measure.meaning };
 }

@@ -1,6 +1,8 @@
 // Pruning: the generated table, laid in the spare strip, goes into the table strip without the entries that senior sheets answer as well.
+#![tactic(auto)]
+
 ghost use Rattle.std.specs.Prelude.{◌≡◌, ℕ, ◌<◌, ◌≤◌, List, length};
-ghost use Rattle.theory.specs.Measures.{Lawful, same as same-values};
+ghost use Rattle.theory.specs.Measures.{Lawful, same as same_values};
 ghost use Rattle.theory.specs.Tables.{Table};
 ghost use Rattle.theory.specs.Order.{Sorted, blank_entry};
 ghost use Rattle.strips.specs.Strips.{wiped};
@@ -29,7 +31,7 @@ fn covered<M: Measure>(laid: &[Entry<M>], entry: Entry<M>) -> bool
 
 /// Whether neither of two values is better.
 fn ties<M: Measure>(one: M, other: M) -> bool
-    ensures { result ≡ same-values M.Measure.meaning one other }
+    ensures { result ≡ same_values M.Measure.meaning one other }
 {
     !one.better(other) && !other.better(one)
 }

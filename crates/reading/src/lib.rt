@@ -1,4 +1,6 @@
 // What a line is read as, and the lines that are read before a book is open.
+#![tactic(auto)]
+
 ghost use Rattle.std.specs.Prelude.{◌≡◌, IfOk, string_bytes};
 ghost use Rattle.lines.specs.InputLines.{ahead};
 ghost use Rattle.reading.specs.Readings.{ReadAs};

@@ -1,5 +1,6 @@
 // The root builder over plain slices: a pruned search from a root, out along the redraws and in against them,
 // gives the root's new entries; they are put into the table in order.
+#![tactic(auto)]
 
 mod builder;
 mod collect;

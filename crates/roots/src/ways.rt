@@ -1,6 +1,6 @@
 // One search serves both ways: what a redraw, a join and the table's answer are to a search that goes out from the root or in towards it.
 ghost use Rattle.std.specs.Prelude.{◌≡◌, ℕ, ◌≤◌};
-ghost use Rattle.theory.specs.Tables.{held, answer as table-answer};
+ghost use Rattle.theory.specs.Tables.{held, answer as table_answer};
 ghost use Rattle.theory.specs.Order.{Sorted};
 ghost use Rattle.theory.specs.Searches.{facing, facing_redraw, facing_table};
 
@@ -41,7 +41,7 @@ pub fn extend<M: Measure>(way: Way, value: M, redraw: Redraw) -> M
 
 /// What the table already answers between the root and a sheet.
 pub fn present<M: Measure>(way: Way, table: &[Entry<M>], root: u16, sheet: u16) -> M
-    ensures { (n : ℕ) → n ≤ 65536 → Sorted M.Measure.meaning n table.now → result ≡ table-answer (facing way M.Measure.meaning) (facing_table way (held M.Measure.meaning table.now)) root sheet }
+    ensures { (n : ℕ) → n ≤ 65536 → Sorted M.Measure.meaning n table.now → result ≡ table_answer (facing way M.Measure.meaning) (facing_table way (held M.Measure.meaning table.now)) root sheet }
 {
     match way {
         Way::Out => answer(table, root, sheet),

@@ -1,4 +1,6 @@
 // The round builder's turn: generate, check the places, prune into the table.
+#![tactic(auto)]
+
 ghost use Rattle.std.specs.Prelude.{◌≡◌, ℕ, List, length, replicate};
 ghost use Rattle.theory.specs.Measures.{Lawful};
 ghost use Rattle.theory.specs.Tables.{Table};

@@ -2,7 +2,7 @@
 -- redraws were accepted, and how many roots or rounds were accepted since the making or the last accepted enter or clear.
 -- Whatever calls have come, the promise below holds of the book that they have led to, under every lawful measure.
 use Rattle.std.specs.Prelude.{◌≡◌, ℕ, suc, ◌<◌, ◌≤◌, Bool, true, false, cond, List, [], ◌∷◌, ◌++◌, length, None}
-use Rattle.std.specs.List.{AllByRecursion as All}
+use Rattle.std.specs.List.{AllByRecursion}
 use Rattle.theory.specs.declared.Redraw.{Redraw}
 use Rattle.theory.specs.declared.Entry.{Entry}
 use Rattle.theory.specs.declared.Phase.TheVariants.{Finished}
@@ -93,7 +93,7 @@ pub record FinishedBook {V : Type 0} (m : Meaning V) (n : ℕ) (rs : List Redraw
   -- it answers every pair with the best over all chains of its accepted redraws
   pub answers_rightly : (s t : ℕ) → s < n → t < n → BestOver m rs s t (answer m (held m v.entries) s t)
   -- every honest table that answers all pairs rightly holds each of its entries
-  pub held_by_every_right_table : (es : List (Entry V)) → HonestAndRight m n rs es → All (λ e. Among e es) v.entries
+  pub held_by_every_right_table : (es : List (Entry V)) → HonestAndRight m n rs es → AllByRecursion (λ e. Among e es) v.entries
   -- another finished book of this measure over as many sheets has the same entries exactly if the accepted redraws of both give every ordered pair the same best measure
   pub equal_exactly : (h : History V) (w : View V) → LedTo m n h w → w.phase ≡ Finished
       → (v.entries ≡ w.entries → (s t : ℕ) → s < n → t < n → best m n rs s t ≡ best m n (accepted h) s t)

@@ -1,4 +1,6 @@
 // Sessions: every line of the input is read, carried out on the book and answered.
+#![tactic(auto)]
+
 ghost use Rattle.std.specs.Prelude.{◌≡◌, [], string_bytes, OnOk};
 ghost use Rattle.lines.specs.InputLines.{ahead};
 ghost use Rattle.sessions.specs.Serving.{LineServed, Served};
@@ -19,7 +21,7 @@ fn serve_line<B: PricedBook>(
 ) -> Result<(), AllocError>
 where
     B::Value: Display,
-    ensures { OnOk result (LineServed B.Value.Measure.meaning rounds output line.entry.number line.entry.text.now (view book.old) (view book.new) (string_bytes out.old) (string_bytes out.new)) }
+    ensures { OnOk result (LineServed B.Value.Measure.meaning B.rounds B.Value.Display.output line.entry.number line.entry.text.now (B.view book.old) (B.view book.new) (string_bytes out.old) (string_bytes out.new)) }
 {
     let Some(reading) = asked(heap, line.text, true, book.takes_rounds())? else {
         return Ok(());
@@ -41,7 +43,7 @@ where
     B::Value: Display,
     ensures input { lines.new.input.now ≡ lines.old.input.now }
     ensures ended { OnOk result (ahead lines.new.input.now lines.new.place ≡ []) }
-    ensures served { OnOk result (Served B.Value.Measure.meaning rounds output lines.old.number (ahead lines.old.input.now lines.old.place) (view book.old) (view book.new) (string_bytes out.old) (string_bytes out.new)) }
+    ensures served { OnOk result (Served B.Value.Measure.meaning B.rounds B.Value.Display.output lines.old.number (ahead lines.old.input.now lines.old.place) (B.view book.old) (B.view book.new) (string_bytes out.old) (string_bytes out.new)) }
 {
     while let Some(line) = lines.next() {
         serve_line(heap, book, line, out)?;

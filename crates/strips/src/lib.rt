@@ -1,4 +1,5 @@
 //! Strips of lent memory: slices of records with a count of those in use.
+#![tactic(auto)]
 
 ghost use Rattle.std.specs.Prelude.{◌≡◌, ◌+◌, ◌-◌, ◌<◌, ◌≤◌, min, true, false, [], ◌∷◌, ◌++◌, length, replicate, if◌then◌else◌, nat_lt, slice_index_or, slice_range, slice_set};
 ghost use Rattle.strips.specs.Strips.{Held, used, wiped};

@@ -1,4 +1,5 @@
 // Lookups in a table whose entries stand in order: by binary search, and by one walk over two sorted lists.
+#![tactic(auto)]
 
 mod keys;
 mod lookups;

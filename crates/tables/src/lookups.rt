@@ -1,7 +1,7 @@
 // What a table holds for a pair of sheets, and the best join of two sorted lists.
 ghost use Rattle.std.specs.Prelude.{◌≡◌, ℕ, ◌≤◌, [], ◌∷◌};
 ghost use Rattle.theory.specs.Measures.{pick};
-ghost use Rattle.theory.specs.Tables.{held, answer as answer-spec};
+ghost use Rattle.theory.specs.Tables.{held, answer as answer_spec};
 ghost use Rattle.theory.specs.Order.{key_of, Sorted};
 ghost use Rattle.tables.specs.Places.{Rising};
 ghost use Rattle.tables.specs.Walks.{Walkable, Walked, over_seniors};
@@ -80,7 +80,7 @@ pub fn best_over_seniors<M: Measure>(table: &[Entry<M>], s: u16, t: u16) -> M
 /// The answer of a table: the empty chain from a sheet to itself; else the better of the entry from `s` to `t`
 /// and the best join over the sheets senior to both.
 pub fn answer<M: Measure>(table: &[Entry<M>], s: u16, t: u16) -> M
-    ensures { (n : ℕ) → n ≤ 65536 → Sorted M.Measure.meaning n table.now → result ≡ answer-spec M.Measure.meaning (held M.Measure.meaning table.now) s t }
+    ensures { (n : ℕ) → n ≤ 65536 → Sorted M.Measure.meaning n table.now → result ≡ answer_spec M.Measure.meaning (held M.Measure.meaning table.now) s t }
 {
     if s == t {
         return M::empty();

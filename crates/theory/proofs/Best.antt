@@ -1,6 +1,6 @@
 -- The best measure by elimination is the best over all chains, of any length: no chain is better, and it is none or some chain's value.
 use Rattle.std.proofs.Common.{◌≡◌, ℕ, zero, suc, ◌<◌, ◌≤◌, Bool, true, false, cond, not, ◌&&◌, eqb, ltb, ◌⊎◌, List, [], ◌∷◌, ◌++◌, sym, refl, ap, ◌∙◌, subst, inl, inr, ⊎_elim, arith}
-use Rattle.std.specs.List.{AllByRecursion as All}
+use Rattle.std.specs.List.{AllByRecursion}
 use Rattle.std.proofs.lemmas.Bool.{cases_Bool, both_ways, cond_both, cond-true, cond-false, and_parts, and_from, not-true, eqb-true, eqb-false, eq-eqb, ltb-true, cases_eq}
 use Rattle.std.proofs.ByRecursion.{All-append}
 use Rattle.theory.specs.declared.Redraw.{Redraw}
@@ -9,7 +9,7 @@ use Rattle.theory.specs.Chains.{Among, fits, Register, Runs, Chain, value, Reach
 use Rattle.theory.proofs.Orders as orders
 
 -- what holds of each holds of one among them
-pub all_among : {X : Type 0} (P : X → Type 0) (x : X) (xs : List X) → All P xs → Among x xs → P x
+pub all_among : {X : Type 0} (P : X → Type 0) (x : X) (xs : List X) → AllByRecursion P xs → Among x xs → P x
 all_among P x [] h w = absurd w
 all_among P x (y ∷ ys) h w = ⊎_elim (λ (e : y ≡ x). subst P e h.0) (λ (v : Among x ys). all_among P x ys h.1 v) w
 
@@ -45,11 +45,11 @@ module _ {V : Type 0} (m : Meaning V) (L : Lawful m) where
   worth_some n r h = orders.not_none_some m L (m.worth r) (worth_value n r h) (L.redraw_is_some r (fits_parts n r h).is_proper)
 
   -- the value of a chain is a value, and the chains of a join are joined
-  pub value_value : (n : ℕ) (rs p : List Redraw) → Register n rs → All (λ r. Among r rs) p → Value m (value m p)
+  pub value_value : (n : ℕ) (rs p : List Redraw) → Register n rs → AllByRecursion (λ r. Among r rs) p → Value m (value m p)
   value_value n rs [] reg h = L.empty_is_value
   value_value n rs (r ∷ p) reg h = orders.join_value m L (worth_value n r (all_among (λ x. fits n x ≡ true) r rs reg h.0)) (value_value n rs p reg h.1)
 
-  pub value_append : (n : ℕ) (rs p q : List Redraw) → Register n rs → All (λ r. Among r rs) p → All (λ r. Among r rs) q → value m (p ++ q) ≡ m.join (value m p) (value m q)
+  pub value_append : (n : ℕ) (rs p q : List Redraw) → Register n rs → AllByRecursion (λ r. Among r rs) p → AllByRecursion (λ r. Among r rs) q → value m (p ++ q) ≡ m.join (value m p) (value m q)
   value_append n rs [] q reg h k = sym (L.empty_in_front (value m q) (value_value n rs q reg k))
   value_append n rs (r ∷ p) q reg h k =
       ap (m.join (m.worth r)) (value_append n rs p q reg h.1 k)

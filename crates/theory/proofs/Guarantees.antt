@@ -1,6 +1,6 @@
 -- What a finished book guarantees, and why a root that wants for places means that no honest, right table fits.
 use Rattle.std.proofs.Common.{◌≡◌, ℕ, zero, suc, ◌<◌, ◌≤◌, min, Bool, true, false, cond, ◌&&◌, ◌||◌, eqb, ltb, ◌⊎◌, List, [], ◌∷◌, ◌++◌, length, sym, refl, ap, ◌∙◌, subst, ap₂, inl, inr, ⊎_elim, arith}
-use Rattle.std.specs.List.{AllByRecursion as All}
+use Rattle.std.specs.List.{AllByRecursion}
 use Rattle.std.proofs.lemmas.Bool.{cond_both}
 use Rattle.theory.specs.declared.Redraw.{Redraw}
 use Rattle.theory.specs.declared.Entry.{Entry}
@@ -17,7 +17,7 @@ use Rattle.theory.proofs.Listings as listings
 use Rattle.theory.proofs.Roots as roots
 
 -- what holds of everything among a list holds of each
-pub all_from_among : {X : Type 0} (P : X → Type 0) (xs : List X) → ((x : X) → Among x xs → P x) → All P xs
+pub all_from_among : {X : Type 0} (P : X → Type 0) (xs : List X) → ((x : X) → Among x xs → P x) → AllByRecursion P xs
 all_from_among P [] h = tt
 all_from_among P (x ∷ xs) h = (h x (inl refl), all_from_among P xs (λ y w. h y (inr w)))
 
@@ -50,7 +50,7 @@ module _ {V : Type 0} (m : Meaning V) (L : Lawful m) where
     least_table f vf h r = fin.finished_least m L n (best m n rs) vals (bests.best_self m L n rs reg) (bests.triangle m L n rs reg) f vf h r
 
     -- so it holds each finished entry, and is at least as long
-    pub held_by : (es : List (Entry V)) → InOrder m n es → Honest m n (best m n rs) (held m es) → Right m n (best m n rs) (held m es) → All (λ e. Among e es) (listed m n (finished m (best m n rs)))
+    pub held_by : (es : List (Entry V)) → InOrder m n es → Honest m n (best m n rs) (held m es) → Right m n (best m n rs) (held m es) → AllByRecursion (λ e. Among e es) (listed m n (finished m (best m n rs)))
     held_by es o h r = all_from_among (λ e. Among e es) (listed m n (finished m (best m n rs))) (λ e w.
         let p = listings.listed_among m n (finished m (best m n rs)) e w in
         let s : some m (finished m (best m n rs) e.from e.to) ≡ true = subst (λ x. some m x ≡ true) p.3 p.4 in
@@ -89,7 +89,7 @@ module _ {V : Type 0} (m : Meaning V) (L : Lawful m) where
         is_finished_table = is;
         answers_best = λ s t ls lt. subst (BestOver m rs s t) (sym (ap (λ es. answer m (held m es) s t) is ∙ finished_answers n rs S.redraws_fit s t ls lt)) (bests.best_over m L n rs S.redraws_fit s t);
         held_by_all = λ es h. (
-          subst (All (λ e. Among e es)) (sym is) (held_by n rs S.redraws_fit es h.in_order h.honest h.right),
+          subst (AllByRecursion (λ e. Among e es)) (sym is) (held_by n rs S.redraws_fit es h.in_order h.honest h.right),
           subst (λ x. length x ≤ length es) (rooted_all n rs S.redraws_fit ∙ sym is) (no_shorter n rs S.redraws_fit n es h.in_order h.honest h.right),
         );
         same_exactly = λ w W q e.

@@ -1,6 +1,6 @@
 -- The other direction: under the mirrored measure, with every redraw turned round, best measures, answers and finished tables are those of the pair turned round.
 use Rattle.std.proofs.Common.{◌≡◌, ℕ, zero, suc, ◌<◌, ◌≤◌, min, Bool, true, false, cond, not, ◌&&◌, ◌||◌, eqb, ltb, ◌⊎◌, List, [], ◌∷◌, map, sym, refl, ap, ◌∙◌, subst, ap₂, inl, inr, ⊎_elim, arith}
-use Rattle.std.specs.List.{AllByRecursion as All}
+use Rattle.std.specs.List.{AllByRecursion}
 use Rattle.std.proofs.lemmas.Bool.{cases_Bool, eqb-true, eqb-false, eq-eqb, ne_eqb, cases_eq, and_parts, and_from, not-true, not_from_false, lt-ltb}
 use Rattle.theory.specs.declared.Redraw.{Redraw}
 use Rattle.theory.specs.Measures.{Meaning, Lawful, Value, NotWorse, proper, some, same, pick, best_below, any_below}

@@ -1,7 +1,7 @@
 -- A book of redraws seen from outside: its sheets, the places that were lent to it, its redraws, its entries and where it stands.
 -- Each call is either turned away, with the first refusal that applies and nothing changed, or taken, with the answer and the book that the rules name.
 use Rattle.std.specs.Prelude.{◌≡◌, ℕ, zero, suc, ◌-◌, ◌<◌, ◌≤◌, Bool, true, false, cond, not, ◌&&◌, ◌||◌, List, [], ◌∷◌, ◌++◌, length, replicate, Some, None, Ok, Err, Option, Result, ◌==◌, nat_le, nat_lt}
-use Rattle.std.specs.List.{AllByRecursion as All}
+use Rattle.std.specs.List.{AllByRecursion}
 use Rattle.theory.specs.declared.Redraw.{Redraw}
 use Rattle.theory.specs.declared.Entry.{Entry}
 use Rattle.theory.specs.declared.Phase as phases
@@ -285,7 +285,7 @@ pub record Guarantee {V : Type 0} (m : Meaning V) (v : View V) : Type 0 where
   -- it answers every pair with the best over all chains of its redraws
   pub answers_best : (s t : ℕ) → s < v.sheets → t < v.sheets → BestOver m v.redraws s t (answer m (held m v.entries) s t)
   -- every honest table that answers all pairs rightly holds each of its entries, so it has as many places at least
-  pub held_by_all : (es : List (Entry V)) → HonestRight m v es → All (λ e. Among e es) v.entries × (length v.entries ≤ length es)
+  pub held_by_all : (es : List (Entry V)) → HonestRight m v es → AllByRecursion (λ e. Among e es) v.entries × (length v.entries ≤ length es)
   -- another finished book over as many sheets has the same entries exactly if all best measures agree
   pub same_exactly : (w : View V) → Sound m w → w.phase ≡ phases.TheVariants.Finished → w.sheets ≡ v.sheets → (v.entries ≡ w.entries → AgreeOnBest m v w) × (AgreeOnBest m v w → v.entries ≡ w.entries)
 

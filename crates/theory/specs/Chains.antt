@@ -1,7 +1,7 @@
 -- A chain (a path, which may pass a sheet twice) is a sequence of redraws, each starting where the one before it ended.
 -- Its value is its redraws joined in order. The best measure from s to t is the best value over all chains from s to t, none without one.
 use Rattle.std.specs.Prelude.{◌≡◌, ℕ, zero, suc, Bool, true, cond, not, ◌&&◌, ◌⊎◌, List, [], ◌∷◌, ◌==◌, nat_lt}
-use Rattle.std.specs.List.{AllByRecursion as All}
+use Rattle.std.specs.List.{AllByRecursion}
 use Rattle.theory.specs.declared.Redraw.{Redraw}
 use Rattle.theory.specs.Measures.{Meaning, NotWorse, pick, proper}
 
@@ -16,7 +16,7 @@ fits n r = proper r && ((nat_lt r.from n && nat_lt r.to n) && not (r.from == r.t
 
 -- every redraw of the register is one that a book of n sheets takes
 abbrev pub Register : ℕ → List Redraw → Type 0
-Register n rs = All (λ r. fits n r ≡ true) rs
+Register n rs = AllByRecursion (λ r. fits n r ≡ true) rs
 
 -- p runs from s to t
 abbrev pub Runs : List Redraw → ℕ → ℕ → Type 0
@@ -25,7 +25,7 @@ Runs (r ∷ p) s t = (r.from ≡ s) × Runs p r.to t
 
 -- p is a chain of redraws of rs from s to t
 abbrev pub Chain : List Redraw → ℕ → ℕ → List Redraw → Type 0
-Chain rs s t p = All (λ r. Among r rs) p × Runs p s t
+Chain rs s t p = AllByRecursion (λ r. Among r rs) p × Runs p s t
 
 -- the value of a chain: its redraws joined in order
 abbrev pub value : {V : Type 0} → Meaning V → List Redraw → V

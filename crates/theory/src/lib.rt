@@ -1,5 +1,6 @@
 // The words of the subject: what a redraw, an entry, a phase and a refusal are.
 // What they mean, and what is proved of them for every lawful measure, stands in specs/ and proofs/.
+#![tactic(auto)]
 
 /// A redraw (an edge of the graph): one sheet redrawn as another, with its minutes and its line grade.
 #[derive(Clone, Copy)]

@@ -1,6 +1,6 @@
 -- What one turn of the search for a line's words keeps, and that a line has one list of words.
 use Rattle.std.proofs.Common.{◌≡◌, ℕ, ◌+◌, ◌-◌, ◌<◌, ◌≤◌, max, ◌⊎◌, List, [], ◌∷◌, ◌++◌, length, get_or, sym, refl, ap, ◌∙◌, subst, inl, inr, ⊎_elim, arith}
-use Rattle.std.specs.List.{AllByRecursion as All}
+use Rattle.std.specs.List.{AllByRecursion}
 use Rattle.std.proofs.ByRecursion.{All-push, All-weaker}
 use Rattle.std.proofs.str.Laws.{order}
 use Rattle.words.specs.declared.split.Place.{Place}
@@ -16,7 +16,7 @@ listed_new : (p q : Place) (ps : List Place) → p ≡ q → Listed p (ps ++ q �
 listed_new p q [] e = inl e
 listed_new p q (x ∷ ps) e = inr (listed_new p q ps e)
 
-ascending_push : (ps : List Place) (q : Place) → Ascending ps → All (λ p. p.end < q.start) ps → Ascending (ps ++ q ∷ [])
+ascending_push : (ps : List Place) (q : Place) → Ascending ps → AllByRecursion (λ p. p.end < q.start) ps → Ascending (ps ++ q ∷ [])
 ascending_push [] q a e = (tt, tt)
 ascending_push (p ∷ ps) q a e = (All-push (λ x. p.end < x.start) ps q a.0 e.0, ascending_push ps q a.1 e.1)
 
@@ -25,10 +25,10 @@ same_place p q e f = λ i. record { start = e i; end = f i }
 
 -- the words found so far, where the next one begins at start
 pub record Sofar (line : List ℕ) (found : List Place) (start : ℕ) : Type 0 where
-  pub each : All (IsWord line) found
+  pub each : AllByRecursion (IsWord line) found
   pub every : (p : Place) → IsWord line p → p.start < start → Listed p found
   pub ascending : Ascending found
-  pub passed : start < length line → All (λ p. p.end < start) found
+  pub passed : start < length line → AllByRecursion (λ p. p.end < start) found
   pub begins : start < length line → (start ≡ 0) ⊎ (get_or line (start - 1) 0 ≡ 32)
   pub solid : start < length line → get_or line start 0 ≡ 32 → ⊥
   pub within : start ≤ length line
@@ -105,7 +105,7 @@ all_found line found start h l = record {
   ascending = h.ascending;
 }
 
-all_listed : (P : Place → Type 0) (ps : List Place) (p : Place) → All P ps → Listed p ps → P p
+all_listed : (P : Place → Type 0) (ps : List Place) (p : Place) → AllByRecursion P ps → Listed p ps → P p
 all_listed P [] p a h = absurd h
 all_listed P (q ∷ ps) p a (inl e) = subst P (sym e) a.0
 all_listed P (q ∷ ps) p a (inr h) = all_listed P ps p a.1 h
@@ -122,7 +122,7 @@ rest_within : (p q : Place) (ps qs : List Place) → p ≡ q → p.start < p.end
 rest_within p q ps qs e s a w x h = ⊎_elim (λ f. absurd (later p ps s a x (f ∙ sym e) h)) (λ k. k) (w x (inr h))
 
 -- ascending lists of words that are within each other are the same
-same_lists : (ps qs : List Place) → All (λ p. p.start < p.end) ps → All (λ p. p.start < p.end) qs → Ascending ps → Ascending qs → Within ps qs → Within qs ps → ps ≡ qs
+same_lists : (ps qs : List Place) → AllByRecursion (λ p. p.start < p.end) ps → AllByRecursion (λ p. p.start < p.end) qs → Ascending ps → Ascending qs → Within ps qs → Within qs ps → ps ≡ qs
 same_lists [] [] u v a b w z = refl
 same_lists [] (q ∷ qs) u v a b w z = absurd (z q (inl refl))
 same_lists (p ∷ ps) [] u v a b w z = absurd (w p (inl refl))
@@ -142,7 +142,7 @@ same_lists (p ∷ ps) (q ∷ qs) u v a b w z =
 one_list : (line : List ℕ) (ps qs : List Place) → WordsOf line ps → WordsOf line qs → ps ≡ qs
 one_list line ps qs v w = same_lists ps qs (somes ps v) (somes qs w) v.ascending w.ascending (within ps qs v w) (within qs ps w v)
   where
-    somes : (xs : List Place) → WordsOf line xs → All (λ p. p.start < p.end) xs
+    somes : (xs : List Place) → WordsOf line xs → AllByRecursion (λ p. p.start < p.end) xs
     somes xs h = All-weaker (IsWord line) (λ p. p.start < p.end) (λ p k. k.some) xs h.each
 
     within : (xs ys : List Place) → WordsOf line xs → WordsOf line ys → Within xs ys

@@ -1,7 +1,7 @@
 -- The words of a line. A word is a part of its line without spaces (byte 32), as long as it can be: it begins where the line begins or
 -- after a space, and it ends where the line ends or before a space. A line's words are all of them, in their order.
 use Rattle.std.specs.Prelude.{◌≡◌, ℕ, ◌-◌, ◌<◌, ◌≤◌, ◌⊎◌, List, [], ◌∷◌, length, ◌≢◌, slice_index}
-use Rattle.std.specs.List.{AllByRecursion as All}
+use Rattle.std.specs.List.{AllByRecursion}
 use Rattle.words.specs.declared.split.Place.{Place}
 
 -- the place holds a word of the line
@@ -20,11 +20,11 @@ Listed p (q ∷ qs) = (p ≡ q) ⊎ Listed p qs
 -- each place ends before those listed after it start
 abbrev pub Ascending : List Place → Type 0
 Ascending [] = Unit {0}
-Ascending (p ∷ ps) = All (λ q. p.end < q.start) ps × Ascending ps
+Ascending (p ∷ ps) = AllByRecursion (λ q. p.end < q.start) ps × Ascending ps
 
 -- the places are those of the line's words: each is a word, every word is listed, and they ascend
 pub record WordsOf (line : List ℕ) (places : List Place) : Type 0 where
-  pub each : All (IsWord line) places
+  pub each : AllByRecursion (IsWord line) places
   pub every : (p : Place) → IsWord line p → Listed p places
   pub ascending : Ascending places
 

@@ -3,4 +3,4 @@ use Rattle.desk.proofs.memory.filled.Given as goal
 
 -- as many records as turns
 abbrev pub invariant-loop-held : goal.invariant-loop-held
-invariant-loop-held g l = vec_len l.records ≡ l.-held
+invariant-loop-held g l = vec_len l.records ≡ l._held

@@ -8,7 +8,7 @@ loop-item-init g c =
     any_none m (JoinOffers m c.args.way c.args.junior c.args.value) c.args.list.now c.args.work.now
 
 pub loop-item-preserved : goal.loop-item-preserved
-loop-item-preserved g c = joins_more g.M.Measure.meaning c.args.way c.args.junior c.args.value c.args.list.now c.loop-item.item-index c.item-item.result c.args.work.now c.loop-item.work c.relax-join.new.work c.loop-item-test.true c.item-item.is c.relax-join.ensures c.loop-item.invariant
+loop-item-preserved g c = joins_more g.M.Measure.meaning c.args.way c.args.junior c.args.value c.args.list.now c.loop-item.item-index c.item-item.result c.args.work.now c.loop-item.work c.relax_join.new.work c.loop-item-test.true c.item-item.is c.relax_join.ensures c.loop-item.invariant
 
 pub returns : goal.returns
 returns g c =

@@ -11,7 +11,7 @@ loop-redraw-init g c =
 pub loop-redraw-preserved : goal.loop-redraw-preserved
 loop-redraw-preserved g c =
     let d : Redraw = record { from = 0; to = 0; minutes = 0; grade = 0 } in
-    redraws_more g.M.Measure.meaning c.args.way c.args.junior c.args.register.now c.loop-redraw.redraw-index d c.as-entry.result c.args.work.now c.loop-redraw.work c.relax-entry.new.work c.loop-redraw-test.true c.as-entry.ensures c.relax-entry.ensures c.loop-redraw.invariant
+    redraws_more g.M.Measure.meaning c.args.way c.args.junior c.args.register.now c.loop-redraw.redraw-index d c.as_entry.result c.args.work.now c.loop-redraw.work c.relax_entry.new.work c.loop-redraw-test.true c.as_entry.ensures c.relax_entry.ensures c.loop-redraw.invariant
 
 pub returns : goal.returns
 returns g c =

@@ -10,7 +10,7 @@ loop-item-init g c = λ rises.
 pub loop-item-preserved : goal.loop-item-preserved
 loop-item-preserved g c = λ rises.
     let m = g.M.Measure.meaning in
-    any_more_read m (PresentOffers m c.args.way c.args.junior c.args.table.now) c.args.table.now c.loop-item.item-index c.item-item.result c.args.work.now c.loop-item.work c.relax-present.new.work c.loop-item-test.true c.item-item.is (c.loop-item.invariant rises) (c.relax-present.ensures rises)
+    any_more_read m (PresentOffers m c.args.way c.args.junior c.args.table.now) c.args.table.now c.loop-item.item-index c.item-item.result c.args.work.now c.loop-item.work c.relax_present.new.work c.loop-item-test.true c.item-item.is (c.loop-item.invariant rises) (c.relax_present.ensures rises)
 
 pub returns : goal.returns
 returns g c = λ rises.

@@ -9,8 +9,8 @@ use Rattle.generation.proofs.rows.collect.Goals as goal
 pub loop-senior-init : goal.loop-senior-init
 loop-senior-init g c = (refl, λ l. (omega arith, l, paste_none c.args.spare.now c.args.count []))
 
-pub returns-in-default : goal.returns-in-default
-returns-in-default g c =
+pub returns-in_default : goal.returns-in_default
+returns-in_default g c =
     let m = g.M.Measure.meaning in
     let k = c.loop-senior.senior in
     record {
@@ -18,7 +18,7 @@ returns-in-default g c =
       cases = λ l.
           let so_far = c.loop-senior.invariant.1 l in
           let within : c.loop-senior.place ≤ length c.loop-senior.spare = omega (arith, so_far.1, c.loop-senior.invariant.0) in
-          let stop = added_stop c.args.spare.now c.loop-senior.spare c.add.new.spare c.args.count c.loop-senior.place (row_below m c.args.way c.args.junior c.args.work.now k) (row_at m c.args.way c.args.junior c.args.work.now k) so_far c.loop-senior.invariant.0 (c.in-default.ensures.cases within) in
+          let stop = added_stop c.args.spare.now c.loop-senior.spare c.add.new.spare c.args.count c.loop-senior.place (row_below m c.args.way c.args.junior c.args.work.now k) (row_at m c.args.way c.args.junior c.args.work.now k) so_far c.loop-senior.invariant.0 (c.in_default.ensures.cases within) in
           let more = row_longer m c.args.way c.args.junior c.args.work.now (suc k) c.args.junior c.loop-senior-test.true in
           omega (arith, stop, more);
     }

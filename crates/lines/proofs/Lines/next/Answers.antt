@@ -14,8 +14,8 @@ pub returns : goal.returns
 returns c =
     let input = c.args.self.now.input.now in
     let place = c.args.self.now.place in
-    let end = c.next-line-end.result in
-    let stop = c.next-line-end.ensures in
+    let end = c.next_line-end.result in
+    let stop = c.next_line-end.ensures in
     let inside = c.if-start-input.false in
     let is = c.behind-self.ensures in
     record {

@@ -9,8 +9,8 @@ use Rattle.roots.proofs.collect.collect.Goals as goal
 pub loop-sheet-init : goal.loop-sheet-init
 loop-sheet-init g c = (refl, λ l. (omega arith, l, paste_none c.args.spare.now c.args.count mathlib.Core.List.[]))
 
-pub returns-in-default : goal.returns-in-default
-returns-in-default g c =
+pub returns-in_default : goal.returns-in_default
+returns-in_default g c =
     let m = g.M.Measure.meaning in
     let k = c.loop-sheet.sheet in
     record {
@@ -18,7 +18,7 @@ returns-in-default g c =
       cases = λ l.
           let so_far = c.loop-sheet.invariant.1 l in
           let within : c.loop-sheet.place ≤ length c.loop-sheet.spare = omega (arith, so_far.1, c.loop-sheet.invariant.0) in
-          let stop = added_stop c.args.spare.now c.loop-sheet.spare c.add.new.spare c.args.count c.loop-sheet.place (fresh_below m c.args.way c.args.root c.args.work.now c.args.marks.now k) (fresh_at m c.args.way c.args.root c.args.work.now c.args.marks.now k) so_far c.loop-sheet.invariant.0 (c.in-default.ensures.cases within) in
+          let stop = added_stop c.args.spare.now c.loop-sheet.spare c.add.new.spare c.args.count c.loop-sheet.place (fresh_below m c.args.way c.args.root c.args.work.now c.args.marks.now k) (fresh_at m c.args.way c.args.root c.args.work.now c.args.marks.now k) so_far c.loop-sheet.invariant.0 (c.in_default.ensures.cases within) in
           let more = fresh_longer m c.args.way c.args.root c.args.work.now c.args.marks.now (suc k) c.args.sheets c.loop-sheet-test.true in
           omega (arith, stop, more);
     }

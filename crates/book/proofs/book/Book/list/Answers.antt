@@ -6,5 +6,5 @@ use Rattle.book.proofs.book.Book.list.Goals as goal
 pub returns-in-Finished : goal.returns-in-Finished
 returns-in-Finished g c = record { called = search rules; guarantee = search rules; promise = promise g.M.Measure.meaning g.met.M.Measure.lawful }
 
-pub returns-in-default : goal.returns-in-default
-returns-in-default g c = record { called = search rules; guarantee = search rules; promise = promise g.M.Measure.meaning g.met.M.Measure.lawful }
+pub returns-in_default : goal.returns-in_default
+returns-in_default g c = record { called = search rules; guarantee = search rules; promise = promise g.M.Measure.meaning g.met.M.Measure.lawful }

@@ -13,4 +13,4 @@ returns-in-Roots g c kept =
     let few : c.args.self.now.sheets ≤ 1024 = kept.sound.sheets_bound in
     let below : c.in-Roots.done < c.args.self.now.sheets = N.below in
     let same : min c.in-Roots.done 65535 ≡ c.in-Roots.done = omega arith in
-    subst (NextRoot g.M.Measure.meaning (view c.args.self.now)) (sym (c.sheet-number.ensures ∙ same)) N
+    subst (NextRoot g.M.Measure.meaning (view c.args.self.now)) (sym (c.sheet_number.ensures ∙ same)) N

@@ -4,8 +4,8 @@ use Rattle.book.proofs.Facts.{recovered, keeps}
 use Rattle.minutes_book.proofs.Sets.{minutes_set}
 use Rattle.minutes_book.proofs.calls.MinutesBookPricedBook.root.Goals as goal
 
-pub invariant-of-self : goal.invariant-of-self
-invariant-of-self c = let k = keeps minutes_set c.args.self.now.kept c.root.ensures.called in search rules
+pub invariant_of-self : goal.invariant_of-self
+invariant_of-self c = let k = keeps minutes_set c.args.self.now.kept c.root.ensures.called in search rules
 
 pub returns : goal.returns
 returns c = let k = recovered minutes_set minutes_meaning c.args.self.now.book c.args.self.now.kept in search rules
