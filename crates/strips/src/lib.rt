@@ -31,7 +31,9 @@ pub fn wipe<T: Copy>(xs: &mut [T], from: usize, blank: T)
 
 /// The records from one place up to another; nothing if there is no such part.
 pub fn part<T>(xs: &[T], from: usize, to: usize) -> &[T]
-    ensures { from ≤ to → to ≤ length xs.now → result.now ≡ slice_range xs.now from to }
+    ensures there { from ≤ to → to ≤ length xs.now → result.now ≡ slice_range xs.now from to }
+    ensures backwards { to < from → result.now ≡ [] }
+    ensures beyond { length xs.now < to → result.now ≡ [] }
 {
     if from <= to && to <= xs.len() {
         &xs[from..to]

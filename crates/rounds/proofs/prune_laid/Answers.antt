@@ -9,6 +9,6 @@ returns g c = record {
       let within = laid_within g.M.Measure.meaning n t es (length c.args.table.now) c.args.count c.args.table.now S c.in-Some.entries c.args.laid c.args.spare.now h c.in-Some.is in (
         laid_fits g.M.Measure.meaning n t es (length c.args.table.now) c.args.count c.args.table.now S c.in-Some.entries c.args.laid c.args.spare.now h c.in-Some.is,
         c.prune-pruned.ensures.pruned L n t es
-            (prunable g.M.Measure.meaning n t es (length c.args.table.now) c.args.count c.args.table.now S c.in-Some.entries c.args.laid c.args.spare.now h c.in-Some.is c.part.result.now (c.part.ensures (omega arith) within)),
+            (prunable g.M.Measure.meaning n t es (length c.args.table.now) c.args.count c.args.table.now S c.in-Some.entries c.args.laid c.args.spare.now h c.in-Some.is c.part.result.now (c.part.ensures.there (omega arith) within)),
       );
 }

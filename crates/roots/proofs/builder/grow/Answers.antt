@@ -12,7 +12,7 @@ returns-in_default g c =
       marks = c.gather_both.ensures.marks;
       spare = λ L B. spare_wiped m L c.args.sheets c.args.register.now c.args.root (length c.args.table.now) c.args.count c.args.table.now c.args.spare.now c.args.work.now c.args.marks.now B c.gather_both.new.spare _ c.gather_both.ensures.places (ap (entry 0 0) c.none.ensures) c.wipe.new.xs c.wipe.ensures;
       built = λ L B.
-          let R = ready m L c.args.sheets c.args.register.now c.args.root (length c.args.table.now) c.args.count c.args.table.now c.args.spare.now c.args.work.now c.args.marks.now B c.part.result.now (c.part.ensures (omega arith) B.count_within) in
+          let R = ready m L c.args.sheets c.args.register.now c.args.root (length c.args.table.now) c.args.count c.args.table.now c.args.spare.now c.args.work.now c.args.marks.now B c.part.result.now (c.part.ensures.there (omega arith) B.count_within) in
           let o = c.in_default.ensures.found L R B.work_blank B.marks_zero in
           (too_long m L c.args.sheets c.args.register.now c.args.root (length c.args.table.now) c.args.count c.args.table.now c.args.spare.now c.args.work.now c.args.marks.now B o.0 o.1 o.2 o.3 o.4, refl);
     }
@@ -26,7 +26,7 @@ returns-then-not-has_room g c =
       marks = c.gather_both.ensures.marks;
       spare = λ L B. spare_wiped m L c.args.sheets c.args.register.now c.args.root (length c.args.table.now) c.args.count c.args.table.now c.args.spare.now c.args.work.now c.args.marks.now B c.gather_both.new.spare _ c.gather_both.ensures.places (ap (entry 0 0) c.none.ensures) c.wipe-then-not-has_room.new.xs c.wipe-then-not-has_room.ensures;
       built = λ L B.
-          let R = ready m L c.args.sheets c.args.register.now c.args.root (length c.args.table.now) c.args.count c.args.table.now c.args.spare.now c.args.work.now c.args.marks.now B c.part.result.now (c.part.ensures (omega arith) B.count_within) in
+          let R = ready m L c.args.sheets c.args.register.now c.args.root (length c.args.table.now) c.args.count c.args.table.now c.args.spare.now c.args.work.now c.args.marks.now B c.part.result.now (c.part.ensures.there (omega arith) B.count_within) in
           let o = c.in-Some.ensures.found L R B.work_blank B.marks_zero in
           let w = middle_within m L c.args.sheets c.args.register.now c.args.root (length c.args.table.now) c.args.count c.args.table.now c.args.spare.now c.args.work.now c.args.marks.now B o.0 o.1 o.2 o.3 c.in-Some.middle c.in-Some.end c.gather_both.new.spare o.4 in
           (too_many m L c.args.sheets c.args.register.now c.args.root (length c.args.table.now) c.args.count c.args.table.now c.args.spare.now c.args.work.now c.args.marks.now B o.0 o.1 o.2 o.3 c.in-Some.end o.4.1 (c.has_room.ensures.missing c.if-not-has_room.true w.0 B.count_within), refl);
@@ -41,16 +41,16 @@ returns g c =
       work = c.gather_both.ensures.work;
       marks = c.gather_both.ensures.marks;
       spare = λ L B.
-          let R = ready m L c.args.sheets c.args.register.now c.args.root (length c.args.table.now) c.args.count c.args.table.now c.args.spare.now c.args.work.now c.args.marks.now B c.part.result.now (c.part.ensures (omega arith) B.count_within) in
+          let R = ready m L c.args.sheets c.args.register.now c.args.root (length c.args.table.now) c.args.count c.args.table.now c.args.spare.now c.args.work.now c.args.marks.now B c.part.result.now (c.part.ensures.there (omega arith) B.count_within) in
           let o = c.in-Some.ensures.found L R B.work_blank B.marks_zero in
           let w = middle_within m L c.args.sheets c.args.register.now c.args.root (length c.args.table.now) c.args.count c.args.table.now c.args.spare.now c.args.work.now c.args.marks.now B o.0 o.1 o.2 o.3 c.in-Some.middle c.in-Some.end c.gather_both.new.spare o.4 in
           spare_blanked m L c.args.sheets c.args.register.now c.args.root (length c.args.table.now) c.args.count c.args.table.now c.args.spare.now c.args.work.now c.args.marks.now B o.0 o.1 o.2 o.3 c.in-Some.middle c.in-Some.end c.gather_both.new.spare o.4 _ (ap (entry 0 0) c.none.ensures) c.blank_front.new.xs (c.blank_front.ensures w.1);
       built = λ L B.
-          let R = ready m L c.args.sheets c.args.register.now c.args.root (length c.args.table.now) c.args.count c.args.table.now c.args.spare.now c.args.work.now c.args.marks.now B c.part.result.now (c.part.ensures (omega arith) B.count_within) in
+          let R = ready m L c.args.sheets c.args.register.now c.args.root (length c.args.table.now) c.args.count c.args.table.now c.args.spare.now c.args.work.now c.args.marks.now B c.part.result.now (c.part.ensures.there (omega arith) B.count_within) in
           let o = c.in-Some.ensures.found L R B.work_blank B.marks_zero in
           let w = middle_within m L c.args.sheets c.args.register.now c.args.root (length c.args.table.now) c.args.count c.args.table.now c.args.spare.now c.args.work.now c.args.marks.now B o.0 o.1 o.2 o.3 c.in-Some.middle c.in-Some.end c.gather_both.new.spare o.4 in
           let inside : c.in-Some.middle ≤ length c.gather_both.new.spare = omega (arith, w.0, w.1) in
           put_in m L c.args.sheets c.args.register.now c.args.root (length c.args.table.now) c.args.count c.args.table.now c.args.spare.now c.args.work.now c.args.marks.now B o.0 o.1 o.2 o.3 c.in-Some.middle c.in-Some.end c.gather_both.new.spare o.4
-          c.part-2.result.now c.part-3.result.now (c.part-2.ensures (omega arith) inside) (c.part-3.ensures w.0 w.1) fit.2 refl c.merge.new.table c.merge-2.new.table
+          c.part-2.result.now c.part-3.result.now (c.part-2.ensures.there (omega arith) inside) (c.part-3.ensures.there w.0 w.1) fit.2 refl c.merge.new.table c.merge-2.new.table
           c.merge.ensures.merged c.merge.ensures.rest c.merge.ensures.places c.merge-2.ensures.merged c.merge-2.ensures.rest;
     }
