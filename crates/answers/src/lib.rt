@@ -1,36 +1,37 @@
 // The lines that are printed. Each function appends one line to the text, or fails for want of memory.
 #![tactic(auto)]
 
-ghost use Rattle.std.specs.Prelude.{◌≡◌, ◌++◌, string_bytes, OnOk};
+ghost use Rattle.std.specs.Prelude.{◌≡◌, ◌++◌, string_bytes, OnOk, Some};
 ghost use Rattle.answers.specs.Printed.{layer_text, progress_text, refused_line, opening_line, redraw_line, clear_line, root_line, look_line, entry_line};
 ghost use Rattle.theory.specs.Refusals.{refusal_number};
 
 use orders::vocabulary::{FirstWord, Kind};
 use std::alloc::AllocError;
+use std::fmt;
 use theory::{Progress, Refusal};
 
-// Who refuses a line.
-#[derive(Clone, Copy)]
+/// Who refuses a line.
+#[derive(Clone, Copy, Debug, PartialEq, Eq)]
 pub enum Layer {
-    // the line language
+    /// the line language
     Line,
-    // the book
+    /// the book
     Book,
 }
 
-impl Layer {
-    // The layer as it is printed.
-    pub fn text(self) -> &'static str
-        ensures { result.now ≡ layer_text self }
-    {
-        match self {
+/// The layer as it is printed.
+impl fmt::Display for Layer {
+    ghost output = { λ l. Some (layer_text l) };
+
+    fn fmt<W: fmt::Write>(&self, f: &mut fmt::Formatter<W>) -> fmt::Result {
+        f.write_str(match self {
             Layer::Line => "line",
             Layer::Book => "book",
-        }
+        })
     }
 }
 
-// How far a book is built, as it is printed.
+/// How far a book is built, as it is printed. Not a `Display`, since `Progress` is a type of the theory, whose crate holds no functions.
 pub fn progress_text(progress: Progress) -> &'static str
     ensures { result.now ≡ progress_text progress }
 {
@@ -40,29 +41,14 @@ pub fn progress_text(progress: Progress) -> &'static str
     }
 }
 
-// The number by which a refusal of the book is printed.
+/// The number by which a refusal of the book is printed, which is that of its case.
 pub fn refusal_code(refusal: Refusal) -> u32
     ensures { result ≡ refusal_number refusal }
 {
-    match refusal {
-        Refusal::SheetCount => 1,
-        Refusal::RegisterPlaces => 2,
-        Refusal::TablePlaces => 3,
-        Refusal::SparePlaces => 4,
-        Refusal::WorkPlaces => 5,
-        Refusal::UnknownSheet => 6,
-        Refusal::SameSheet => 7,
-        Refusal::Minutes => 8,
-        Refusal::Grade => 9,
-        Refusal::RegisterFull => 10,
-        Refusal::OtherBuilder => 11,
-        Refusal::AlreadyFinished => 12,
-        Refusal::WantOfPlaces => 13,
-        Refusal::NotFinished => 14,
-    }
+    refusal as u32
 }
 
-// A refusal of the line with this number, counted from 1: its layer, its first faulty word and its number.
+/// A refusal of the line with this number, counted from 1: its layer, its first faulty word and its number.
 pub fn refused(
     out: &mut String,
     line: usize,
@@ -72,52 +58,51 @@ pub fn refused(
 ) -> Result<(), AllocError>
     ensures { OnOk result (string_bytes out.new ≡ string_bytes out.old ++ refused_line line layer word number) }
 {
-    let layer = layer.text();
     writeln!(out, "refused {line} {layer} {word} {number}")
 }
 
-// An opening of a book with so many sheets.
+/// An opening of a book with so many sheets.
 pub fn opening(out: &mut String, kind: Kind, sheets: u32) -> Result<(), AllocError>
     ensures { OnOk result (string_bytes out.new ≡ string_bytes out.old ++ opening_line kind sheets) }
 {
-    let word = FirstWord::Open(kind).text();
+    let word = FirstWord::Open(kind);
     writeln!(out, "{word} {sheets}")
 }
 
-// A redraw that was entered, with the number of redraws held.
+/// A redraw that was entered, with the number of redraws held.
 pub fn redraw(out: &mut String, held: usize) -> Result<(), AllocError>
     ensures { OnOk result (string_bytes out.new ≡ string_bytes out.old ++ redraw_line held) }
 {
-    let word = FirstWord::Redraw.text();
+    let word = FirstWord::Redraw;
     writeln!(out, "{word} {held}")
 }
 
-// A clear.
+/// A clear.
 pub fn clear(out: &mut String) -> Result<(), AllocError>
     ensures { OnOk result (string_bytes out.new ≡ string_bytes out.old ++ clear_line) }
 {
-    let word = FirstWord::Clear.text();
+    let word = FirstWord::Clear;
     writeln!(out, "{word}")
 }
 
-// A root that was built, with the builder's number and how far the book is built.
+/// A root that was built, with the builder's number and how far the book is built.
 pub fn root(out: &mut String, builder: usize, progress: Progress) -> Result<(), AllocError>
     ensures { OnOk result (string_bytes out.new ≡ string_bytes out.old ++ root_line builder progress) }
 {
-    let word = FirstWord::Root.text();
+    let word = FirstWord::Root;
     let progress = progress_text(progress);
     writeln!(out, "{word} {builder} {progress}")
 }
 
-// The answer to a look, by its value's text.
+/// The answer to a look, by its value's text.
 pub fn look(out: &mut String, value: &str) -> Result<(), AllocError>
     ensures { OnOk result (string_bytes out.new ≡ string_bytes out.old ++ look_line value.now) }
 {
-    let word = FirstWord::Look.text();
+    let word = FirstWord::Look;
     writeln!(out, "{word} {value}")
 }
 
-// An entry of the table, by its value's text.
+/// An entry of the table, by its value's text.
 pub fn entry(out: &mut String, from: u32, to: u32, value: &str) -> Result<(), AllocError>
     ensures { OnOk result (string_bytes out.new ≡ string_bytes out.old ++ entry_line from to value.now) }
 {
@@ -129,7 +114,7 @@ mod tests {
     use super::*;
     use std::test::Fail;
 
-    // The printed lines, one after another.
+    /// The printed lines, one after another.
     #[test]
     fn lines_are_printed(rt: HostRuntime) -> Result<(), Fail> {
         let mut out = String::new(rt.alloc());

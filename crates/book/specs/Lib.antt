@@ -1,5 +1,5 @@
 pub mod Views
-pub mod Registers
+pub mod Entering
 pub mod Makings
 pub mod Phases
 pub mod Rooting

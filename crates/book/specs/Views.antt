@@ -1,7 +1,8 @@
 -- A book of redraws as it is seen from outside, what is kept true of it, and what every call of it promises.
 -- A book holds five lent strips. What is seen of it is the sheets, the places, the redraws and entries in use, and the phase;
 -- every other place of the strips is blank between calls.
-use Rattle.std.specs.Prelude.{◌≡◌, ◌≤◌, length, take, Some, None, Ok, Err, Option, Result}
+use Rattle.std.specs.Prelude.{◌≡◌, ◌≤◌, length, take, Option, Result}
+use Rattle.std.specs.Result.{result_err}
 use Rattle.theory.specs.declared.Refusal.{Refusal}
 use Rattle.theory.specs.Measures.{Meaning}
 use Rattle.theory.specs.Books.{View, Strips, Call, Answer, laid_out, Sound, Stepped}
@@ -49,5 +50,4 @@ pub record SameSlices {M : Type 0} (entry exit : Book M) : Type 0 where
 
 -- the refusal in a result, if it has one
 abbrev pub refusal_in : {X : Type 0} → Result X Refusal → Option Refusal
-refusal_in (Ok x) = None
-refusal_in (Err e) = Some e
+refusal_in r = result_err r

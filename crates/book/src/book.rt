@@ -1,13 +1,8 @@
 // The book: what it holds in the strips that were lent to it.
-ghost use Rattle.std.specs.Prelude.{◌≡◌};
-ghost use Rattle.theory.specs.Order.{blank_entry};
 
 use measures::Measure;
 use strips::Strip;
 use theory::{Entry, Phase, Redraw};
-
-/// The most redraws that a register has places for.
-pub(crate) const MOST_REDRAWS: usize = 16384;
 
 /// A book of redraws under one measure, over five lent strips.
 #[derive(Drop)]
@@ -26,15 +21,4 @@ pub struct Book<'r, 't, 's, 'w, 'm, M: Measure> {
     pub(crate) sheets: u16,
     /// Where the book stands.
     pub(crate) phase: Phase,
-}
-
-/// The entry that stands in every place that is not in use.
-pub(crate) fn blank_entry<M: Measure>() -> Entry<M>
-    ensures { result ≡ blank_entry M.Measure.meaning }
-{
-    Entry {
-        from: 0,
-        to: 0,
-        value: M::none(),
-    }
 }

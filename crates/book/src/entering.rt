@@ -1,14 +1,14 @@
 // Enter and clear: the calls that open the book.
-ghost use Rattle.std.specs.Prelude.{◌≡◌, suc, ◌≤◌, [], ◌∷◌, ◌++◌, length, take, Ok, Err};
-ghost use Rattle.theory.specs.Books.{enter as enter_call, clear as clear_call, cleared, enter_answer, enter_refusal, redraw as redraw_of, changed, padded};
-ghost use Rattle.book.specs.Views.{view, Kept, Called, SameSlices, refusal_in};
-ghost use Rattle.book.specs.Registers.{Takes, Room, Padded, Appended};
+ghost use Rattle.std.specs.Prelude.{◌≡◌, Some, MatchResult};
+ghost use Rattle.theory.specs.Books.{enter as enter_call, clear as clear_call, cleared, enter_answer, enter_refusal};
+ghost use Rattle.book.specs.Views.{view, Called, SameSlices};
+ghost use Rattle.book.specs.Entering.{Admitted};
 
-use crate::book::{Book, MOST_REDRAWS, blank_entry};
+use crate::book::Book;
 use crate::phase::{Taken, advance};
 use measures::Measure;
-use strips::Strip;
-use theory::{Phase, Redraw, Refusal};
+use tables::blank_entry;
+use theory::{Redraw, Refusal};
 
 /// The most minutes of a redraw.
 const MOST_MINUTES: u32 = 65535;
@@ -16,45 +16,20 @@ const MOST_MINUTES: u32 = 65535;
 /// The cleanest line grade.
 const CLEANEST_GRADE: u32 = 5;
 
-/// Puts a redraw after those in use, if there is a place, and answers the number of redraws held.
-fn append(register: &mut Strip<Redraw>, redraw: Redraw) -> u32
-    ensures appended { Room register.old.cells.now register.old.count → Appended register.old.cells.now register.old.count redraw result register.new.cells.now register.new.count }
-    ensures places { length register.new.cells.now ≡ length register.old.cells.now }
-    ensures same { register.new.cells.ghost_name ≡ register.old.cells.ghost_name }
-{
-    register.push(redraw);
-    register.items().len().min(MOST_REDRAWS) as u32
-}
-
-/// Takes every record out of a strip whose places past those in use are blank.
-fn empty<T: Copy>(strip: &mut Strip<T>, blank: T)
-    ensures cells { strip.old.count ≤ length strip.old.cells.now → Padded blank strip.old.cells.now strip.old.count → strip.new.cells.now ≡ padded blank (length strip.old.cells.now) [] }
-    ensures items { take strip.new.count strip.new.cells.now ≡ [] }
-    ensures count { strip.new.count ≡ 0 }
-    ensures places { length strip.new.cells.now ≡ length strip.old.cells.now }
-    ensures same { strip.new.cells.ghost_name ≡ strip.old.cells.ghost_name }
-{
-    strip.truncate(0, blank);
-}
-
 impl<'r, 't, 's, 'w, 'm, M: Measure> Book<'r, 't, 's, 'w, 'm, M> {
-    /// The redraw that an enter gives, if the book takes it.
+    /// The redraw that an enter gives, if it may stand in a register of the book.
     fn admit(&self, from: u32, to: u32, minutes: u32, grade: u32) -> Result<Redraw, Refusal>
-        ensures refusal { refusal_in result ≡ enter_refusal (view self.now) from to minutes grade }
-        ensures admitted { elim result [ Ok d ↦ (d ≡ redraw_of from to minutes grade) × Takes (view self.now) d | Err _ ↦ Unit {0} ] }
+        ensures { MatchResult result (λ d. Admitted (view self.now) from to minutes grade d) (λ e. enter_refusal (view self.now) from to minutes grade ≡ Some e) }
     {
         let (from, to) = self.pair(from, to)?;
         if from == to {
             return Err(Refusal::SameSheet);
         }
-        if minutes < 1 || minutes > MOST_MINUTES {
+        if !(1..=MOST_MINUTES).contains(&minutes) {
             return Err(Refusal::Minutes);
         }
-        if grade < 1 || grade > CLEANEST_GRADE {
+        if !(1..=CLEANEST_GRADE).contains(&grade) {
             return Err(Refusal::Grade);
-        }
-        if self.register.items().len() >= self.register.places() {
-            return Err(Refusal::RegisterFull);
         }
         Ok(Redraw {
             from,
@@ -64,24 +39,19 @@ impl<'r, 't, 's, 'w, 'm, M: Measure> Book<'r, 't, 's, 'w, 'm, M> {
         })
     }
 
-    /// Keeps a redraw, empties the table, opens the book and answers the number of redraws held.
-    fn hold(&mut self, redraw: Redraw) -> u32
-        ensures held { Kept M.Measure.meaning self.old → Takes (view self.old) redraw → (result ≡ suc (length (view self.old).redraws)) × (view self.new ≡ changed (view self.old) ((view self.old).redraws ++ redraw ∷ []) [] Phase.Open) × Kept M.Measure.meaning self.new }
-        ensures slices { SameSlices self.old self.new }
-    {
-        let held = append(&mut self.register, redraw);
-        empty(&mut self.table, blank_entry());
-        advance(&mut self.phase, Taken::Enter);
-        held
-    }
-
     /// Enters a redraw, empties the table and opens the book; answers the number of redraws held.
     pub fn enter(&mut self, from: u32, to: u32, minutes: u32, grade: u32) -> Result<u32, Refusal>
         ensures called { Called M.Measure.meaning self.old (enter_call from to minutes grade) (enter_answer result) self.new }
         ensures slices { SameSlices self.old self.new }
     {
         let redraw = self.admit(from, to, minutes, grade)?;
-        Ok(self.hold(redraw))
+        self.register
+            .push(redraw)
+            .map_err(|_| Refusal::RegisterFull)?;
+        self.table.truncate(0, blank_entry());
+        advance(&mut self.phase, Taken::Enter);
+        let held = self.register.items().len();
+        Ok(u32::try_from(held).unwrap_or(u32::MAX))
     }
 
     /// Empties the table and opens the book; never refused.
@@ -89,7 +59,7 @@ impl<'r, 't, 's, 'w, 'm, M: Measure> Book<'r, 't, 's, 'w, 'm, M> {
         ensures called { Called M.Measure.meaning self.old clear_call cleared self.new }
         ensures slices { SameSlices self.old self.new }
     {
-        empty(&mut self.table, blank_entry());
+        self.table.truncate(0, blank_entry());
         advance(&mut self.phase, Taken::Clear);
     }
 }

@@ -1,17 +1,22 @@
 // The making of a book: the lent slices are checked, and then they become a book, which cannot be refused.
-ghost use Rattle.std.specs.Prelude.{◌≡◌, [], length, take, replicate, Ok, Err};
+ghost use Rattle.std.specs.Prelude.{◌≡◌, length, IfOk};
+ghost use Rattle.std.specs.Result.{result_err};
 ghost use Rattle.theory.specs.Books.{making_refusal, new_book};
-ghost use Rattle.book.specs.Views.{view, Kept, refusal_in};
+ghost use Rattle.book.specs.Views.{view, Kept};
 ghost use Rattle.book.specs.Makings.{MadeOver, Makeable};
 
-use crate::book::{Book, MOST_REDRAWS, blank_entry};
+use crate::book::Book;
 use crate::checked::Checked;
 use measures::Measure;
 use strips::Strip;
+use tables::blank_entry;
 use theory::{Entry, Phase, Redraw, Refusal};
 
 /// The most sheets that a book has.
 const MOST_SHEETS: u32 = 1024;
+
+/// The most redraws that a register has places for.
+const MOST_REDRAWS: usize = 16384;
 
 /// The most entries that a table has places for.
 const MOST_ENTRIES: usize = 65536;
@@ -26,10 +31,10 @@ pub fn check<M: Measure>(
     work: &[M],
     marks: &[u8],
 ) -> Result<u16, Refusal>
-    ensures refusal { refusal_in result ≡ making_refusal sheets (length register.now) (length table.now) (length spare.now) (length work.now) (length marks.now) }
-    ensures lengths { elim result [ Ok n ↦ (n ≡ sheets) × Makeable n (length register.now) (length table.now) (length spare.now) (length work.now) (length marks.now) | Err _ ↦ Unit {0} ] }
+    ensures refusal { result_err result ≡ making_refusal sheets (length register.now) (length table.now) (length spare.now) (length work.now) (length marks.now) }
+    ensures lengths { IfOk result (λ n. (n ≡ sheets) × Makeable n (length register.now) (length table.now) (length spare.now) (length work.now) (length marks.now)) }
 {
-    if sheets < 1 || sheets > MOST_SHEETS {
+    if !(1..=MOST_SHEETS).contains(&sheets) {
         return Err(Refusal::SheetCount);
     }
     if register.len() > MOST_REDRAWS {
@@ -45,17 +50,6 @@ pub fn check<M: Measure>(
         return Err(Refusal::WorkPlaces);
     }
     Ok(sheets as u16)
-}
-
-/// An empty strip over a lent slice, every place of it made blank.
-fn emptied<'a, T: Copy>(cells: &'a mut [T], blank: T) -> Strip<'a, T>
-    ensures cells { result.cells.now ≡ replicate (length cells.old) blank }
-    ensures count { result.count ≡ 0 }
-    ensures items { take result.count result.cells.now ≡ [] }
-    ensures places { length result.cells.now ≡ length cells.old }
-    ensures same { result.cells.ghost_name ≡ cells.entry.ghost_name }
-{
-    Strip::new(cells, blank)
 }
 
 impl<'r, 't, 's, 'w, 'm, M: Measure> Checked<'r, 't, 's, 'w, 'm, M> {
@@ -74,19 +68,11 @@ impl<'r, 't, 's, 'w, 'm, M: Measure> Checked<'r, 't, 's, 'w, 'm, M> {
             sheets,
         } = self;
         Book {
-            register: emptied(
-                register,
-                Redraw {
-                    from: 0,
-                    to: 0,
-                    minutes: 0,
-                    grade: 0,
-                },
-            ),
-            table: emptied(table, blank_entry()),
-            spare: emptied(spare, blank_entry()),
-            work: emptied(work, M::none()),
-            marks: emptied(marks, 0),
+            register: Strip::new(register, Redraw::default()),
+            table: Strip::new(table, blank_entry()),
+            spare: Strip::new(spare, blank_entry()),
+            work: Strip::new(work, M::none()),
+            marks: Strip::new(marks, 0),
             sheets,
             phase: Phase::Open,
         }

@@ -1,5 +1,5 @@
 // Root: the builder's turn that adds the entries of the next root.
-ghost use Rattle.std.specs.Prelude.{◌≡◌, min, true, false, Some, Ok, Err};
+ghost use Rattle.std.specs.Prelude.{◌≡◌, Some, Err, MatchResult};
 ghost use Rattle.theory.specs.Books.{View, Sound, root as root_call, built, taken_answer, taken_view, built_answer, root_refusal, progress, NothingFits};
 ghost use Rattle.book.specs.Views.{view, Kept, Called, SameSlices};
 ghost use Rattle.book.specs.Rooting.{NextRoot, PutIn, LeftOut};
@@ -9,13 +9,6 @@ use crate::phase::{Taken, advance};
 use measures::Measure;
 use roots::grow;
 use theory::{Built, Phase, Progress, Refusal};
-
-/// A sheet's number, as many as 16 bits hold.
-fn sheet_number(done: u32) -> u16
-    ensures { result ≡ min done 65535 }
-{
-    done.min(65535) as u16
-}
 
 /// What a builder says of the book after its turn.
 fn progress_of(done: bool) -> Progress
@@ -31,46 +24,36 @@ fn progress_of(done: bool) -> Progress
 impl<'r, 't, 's, 'w, 'm, M: Measure> Book<'r, 't, 's, 'w, 'm, M> {
     /// The next root, if the book is not finished and rounds are not under way.
     fn next_root(&self) -> Result<u16, Refusal>
-        ensures { elim result [ Ok k ↦ (Kept M.Measure.meaning self.now → NextRoot M.Measure.meaning (view self.now) k) | Err e ↦ root_refusal M.Measure.meaning (view self.now) self.now.phase ≡ Some e ] }
+        ensures { MatchResult result (λ root. Kept M.Measure.meaning self.now → NextRoot M.Measure.meaning (view self.now) root) (λ e. root_refusal M.Measure.meaning (view self.now) self.now.phase ≡ Some e) }
     {
         match self.phase {
             Phase::Open => Ok(0),
-            Phase::Roots(done) => Ok(sheet_number(done)),
+            Phase::Roots(done) => Ok(u16::try_from(done).unwrap_or(u16::MAX)),
             Phase::Rounds(_) => Err(Refusal::OtherBuilder),
             Phase::Finished => Err(Refusal::AlreadyFinished),
         }
     }
 
-    /// Puts the entries of the root into the table, if they find places.
-    fn put_in(&mut self, root: u16) -> bool
-        ensures taken { result ≡ true → Kept M.Measure.meaning self.old → NextRoot M.Measure.meaning (view self.old) root → PutIn M.Measure.meaning (view self.old) root self.new }
-        ensures refused { result ≡ false → Kept M.Measure.meaning self.old → NextRoot M.Measure.meaning (view self.old) root → LeftOut M.Measure.meaning (view self.old) root self.new }
+    /// Puts the entries of the root into the table; refuses if they do not find places.
+    fn put_in(&mut self, root: u16) -> Result<(), Refusal>
+        ensures answer { MatchResult result (λ _. Kept M.Measure.meaning self.old → NextRoot M.Measure.meaning (view self.old) root → PutIn M.Measure.meaning (view self.old) root self.new) (λ e. (e ≡ Refusal.WantOfPlaces) × (Kept M.Measure.meaning self.old → NextRoot M.Measure.meaning (view self.old) root → LeftOut M.Measure.meaning (view self.old) root self.new)) }
         ensures slices { SameSlices self.old self.new }
     {
         let sheets = self.sheets;
-        let count = self.table.count;
         let register = &self.register;
-        let table = &mut self.table;
         let spare = &mut self.spare;
         let work = &mut self.work;
         let marks = &mut self.marks;
-        let grown = grow(
+        grow(
             register.items(),
-            table.cells,
-            count,
+            &mut self.table,
             spare.cells,
             work.cells,
             marks.cells,
             root,
             sheets,
-        );
-        match grown {
-            Some(entries) => {
-                self.table.count = entries;
-                true
-            }
-            None => false,
-        }
+        )
+        .map_err(|_| Refusal::WantOfPlaces)
     }
 
     /// Moves the phase on after the root, and answers how many roots are done and whether the book is finished.
@@ -78,8 +61,8 @@ impl<'r, 't, 's, 'w, 'm, M: Measure> Book<'r, 't, 's, 'w, 'm, M> {
         ensures concluded { (v : View M) → Sound M.Measure.meaning v → NextRoot M.Measure.meaning v root → PutIn M.Measure.meaning v root self.old → (built result.number result.progress ≡ taken_answer M.Measure.meaning v root_call) × (view self.new ≡ taken_view M.Measure.meaning v root_call) × Kept M.Measure.meaning self.new }
         ensures slices { SameSlices self.old self.new }
     {
-        let number = root as u32 + 1;
-        let last = number == self.sheets as u32;
+        let number = u32::from(root) + 1;
+        let last = number == u32::from(self.sheets);
         advance(&mut self.phase, Taken::Root(last));
         Built {
             number,
@@ -95,9 +78,7 @@ impl<'r, 't, 's, 'w, 'm, M: Measure> Book<'r, 't, 's, 'w, 'm, M> {
         ensures slices { SameSlices self.old self.new }
     {
         let root = self.next_root()?;
-        if !self.put_in(root) {
-            return Err(Refusal::WantOfPlaces);
-        }
+        self.put_in(root)?;
         Ok(self.conclude(root))
     }
 }

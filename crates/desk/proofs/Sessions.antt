@@ -1,8 +1,20 @@
 -- Every opening takes a line.
-use Rattle.std.proofs.Common.{◌≡◌, ℕ, ◌+◌, ◌<◌, Bool, true, false, List, [], ◌∷◌, length, Some, None, Option, sym, ap, subst, arith}
+use Rattle.std.proofs.Common.{◌≡◌, ℕ, ◌+◌, ◌<◌, true, List, [], ◌∷◌, ◌++◌, length, Some, None, Option, Ok, Err, Result, sym, ap, subst, arith}
+use Rattle.std.specs.Prelude.{MatchResult}
+use Rattle.theory.specs.declared.Refusal.{Refusal}
+use Rattle.theory.specs.Refusals.{refusal_number}
+use Rattle.answers.specs.declared.Layer.TheVariants.{Book}
+use Rattle.answers.specs.Printed.{refused_line}
 use Rattle.sessions.specs.declared.serve.Opening.{Opening}
 use Rattle.sessions.specs.Serving.{opening_of, waiting_text, Awaited, AwaitedBy, OpeningAwaited}
-use Rattle.desk.specs.Desk.{Opened, Session, never_opened, turned_away, served}
+use Rattle.desk.specs.Desk.{opening_refusal, Opened, Session, never_opened, turned_away, served}
+
+-- what is so where a result is taken, and where it is refused
+pub where_ok : {X E : Type 0} (P : X → Type 0) (Q : E → Type 0) (r : Result X E) (x : X) → r ≡ Ok x → MatchResult r P Q → P x
+where_ok P Q r x e = subst (λ s. MatchResult s P Q) e
+
+pub where_err : {X E : Type 0} (P : X → Type 0) (Q : E → Type 0) (r : Result X E) (x : E) → r ≡ Err x → MatchResult r P Q → Q x
+where_err P Q r x e = subst (λ s. MatchResult s P Q) e
 
 none_some : {X : Type 0} (x : X) → ◌≡◌ {A = Option X} None (Some x) → ⊥
 none_some x e = let z : ◌≡◌ {A = ℕ} 0 1 = cc in omega arith
@@ -30,13 +42,13 @@ module _ (number : ℕ) (lines : List (List ℕ)) (found : Option Opening) (rest
   pub session_none : found ≡ None → Session number lines before mid
   session_none e = never_opened number lines rest last before mid (subst (λ x. OpeningAwaited number lines x rest last before mid) e A)
 
-  pub session_served : (o : Opening) → found ≡ Some o → (flag : Bool) → flag ≡ true → (after : List ℕ) → Opened o last rest flag mid after → Session number lines before after
-  session_served o e flag t after O = served number lines rest last o before mid after (awaited_some o e) (subst (λ b. Opened o last rest b mid after) t O)
+  pub session_served : (o : Opening) → found ≡ Some o → (after : List ℕ) → Opened o last rest true mid after → Session number lines before after
+  session_served o e after O = served number lines rest last o before mid after (awaited_some o e) O
 
-  pub session_on : (o : Opening) → found ≡ Some o → (flag : Bool) → flag ≡ false → (next : List ℕ) → Opened o last rest flag mid next
+  pub session_on : (o : Opening) → found ≡ Some o → (refusal : Refusal) → opening_refusal o.sheets ≡ Some refusal → (next : List ℕ) → next ≡ mid ++ refused_line o.number Book 0 (refusal_number refusal)
       → (number' : ℕ) (lines' : List (List ℕ)) → number' ≡ last → lines' ≡ rest → (after : List ℕ) → Session number' lines' next after → Session number lines before after
-  session_on o e flag f next O number' lines' en el after S =
-      turned_away number lines rest last o before mid next after (awaited_some o e) (subst (λ b. Opened o last rest b mid next) f O)
+  session_on o e refusal r next printed number' lines' en el after S =
+      turned_away number lines rest last o before mid next after (awaited_some o e) (refusal, r, printed)
       (subst (λ k. Session k rest next after) en (subst (λ xs. Session number' xs next after) el S))
 
   pub session_shorter : (o : Opening) → found ≡ Some o → (lines' : List (List ℕ)) → lines' ≡ rest → length lines' < length lines

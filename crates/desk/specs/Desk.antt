@@ -2,11 +2,9 @@
 -- opening is printed as such and the reading goes on; an accepted one is answered, and all further lines are carried out on that book.
 use Rattle.std.specs.Prelude.{◌≡◌, ℕ, min, Bool, true, false, List, ◌++◌, Some, None, Option}
 use Rattle.theory.specs.declared.Refusal.{Refusal}
+use Rattle.theory.specs.Measures.{Meaning}
 use Rattle.theory.specs.Books.{View, making_refusal, new_book}
 use Rattle.theory.specs.Refusals.{refusal_number}
-use Rattle.measures.specs.declared.minutes.Minutes as minutes
-use Rattle.measures.specs.declared.chain.Chain as chain
-use Rattle.measures.specs.declared.weakest.Weakest as weakest
 use Rattle.measures.specs.MinutesMeaning.{minutes_meaning}
 use Rattle.measures.specs.ChainMeaning.{chain_meaning}
 use Rattle.measures.specs.WeakestMeaning.{weakest_meaning}
@@ -22,11 +20,15 @@ use Rattle.sessions.specs.Serving.{Served, OpeningAwaited}
 abbrev pub opening_refusal : ℕ → Option Refusal
 opening_refusal sheets = making_refusal sheets 512 1024 1024 (min sheets 64) (min sheets 64)
 
+-- the further lines are carried out on a new book under the measure, with so many sheets
+abbrev pub ServedBook : {V : Type 0} → Meaning V → (V → Option (List ℕ)) → ℕ → List (List ℕ) → ℕ → List ℕ → List ℕ → Type 0
+ServedBook {V} m text number lines sheets before after = (w : View V) × Served m text number lines (new_book sheets 512 1024) w before after
+
 -- the further lines are carried out on a new book of the kind, with so many sheets
 abbrev pub ServedUnder : Kind → ℕ → List (List ℕ) → ℕ → List ℕ → List ℕ → Type 0
-ServedUnder kinds.Minutes number lines sheets before after = (w : View minutes.Minutes) × Served minutes_meaning (λ a. Some (minutes_text a)) number lines (new_book sheets 512 1024) w before after
-ServedUnder kinds.Chain number lines sheets before after = (w : View chain.Chain) × Served chain_meaning (λ a. Some (chain_text a)) number lines (new_book sheets 512 1024) w before after
-ServedUnder kinds.Weakest number lines sheets before after = (w : View weakest.Weakest) × Served weakest_meaning (λ a. Some (weakest_text a)) number lines (new_book sheets 512 1024) w before after
+ServedUnder kinds.Minutes number lines sheets before after = ServedBook minutes_meaning (λ a. Some (minutes_text a)) number lines sheets before after
+ServedUnder kinds.Chain number lines sheets before after = ServedBook chain_meaning (λ a. Some (chain_text a)) number lines sheets before after
+ServedUnder kinds.Weakest number lines sheets before after = ServedBook weakest_meaning (λ a. Some (weakest_text a)) number lines sheets before after
 
 -- the book refuses the opening, or takes it and the further lines are carried out on it
 abbrev pub Opened : Opening → ℕ → List (List ℕ) → Bool → List ℕ → List ℕ → Type 0

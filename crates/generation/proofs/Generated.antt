@@ -1,7 +1,10 @@
 -- What is offered to the row of a junior sheet gives the generated table: the value of each pair is the best offer.
-use Rattle.std.proofs.Common.{◌≡◌, ℕ, zero, suc, ◌<◌, ◌≤◌, min, Bool, true, false, cond, not, ◌&&◌, eqb, ltb, ◌⊎◌, List, get_or, replicate, sym, refl, ap, ◌∙◌, subst, ap₂, inl, inr, ⊎_elim, arith}
+use Rattle.std.proofs.Common.{◌≡◌, ℕ, zero, suc, ◌<◌, ◌≤◌, min, Bool, cond, not, ◌&&◌, eqb, ltb, ◌⊎◌, List, get_or, replicate, sym, refl, ap, ◌∙◌, subst, ap₂, inl, inr, ⊎_elim, arith}
 use Rattle.std.proofs.lemmas.List.{get_or-replicate, get_or_past, length-replicate}
-use Rattle.std.proofs.lemmas.Bool.{cases_eq, cases_lt, cond_both, cond-true, cond-false, and_parts, and_from, not_from_false, eq-eqb, ne_eqb, ltb-true, lt-ltb}
+use Rattle.std.proofs.Math.Bool.{and_comm}
+use Rattle.std.proofs.Math.Nat.{min_comm}
+use Rattle.std.proofs.lemmas.Bool.Decides.{nat_tests}
+use Rattle.std.proofs.lemmas.Bool.{cases_lt, cond_both, cond-true, cond-false, and_parts, and_from, not_from_false, ne_eqb, ltb-true, lt-ltb}
 use Rattle.theory.specs.declared.Redraw.{Redraw}
 use Rattle.theory.specs.declared.Entry.{Entry}
 use Rattle.theory.specs.declared.Way.{Way}
@@ -18,7 +21,9 @@ use Rattle.theory.proofs.Best as bests
 use Rattle.theory.proofs.Facing as facings
 use Rattle.theory.proofs.Listings as listings
 use Rattle.theory.proofs.SortedTables as sorted
-use Rattle.generation.specs.Laying.{next_generated}
+use Rattle.generation.specs.declared.source.Source.{Source}
+use Rattle.generation.specs.declared.source.Source.TheVariants.{Redraws, Entries}
+use Rattle.generation.specs.Laying.{next_generated, Takeable}
 use Rattle.generation.specs.Offers.{near_end, far_end, redraw_entry, EntryOffers, JoinOffers, AnyOffers, PresentOffers, RowOffers, Improved, Relaxed}
 use Rattle.generation.proofs.SheetLists.{list_ends, ends_list}
 
@@ -80,16 +85,7 @@ abbrev through : {V : Type 0} → Meaning V → Table V → ℕ → ℕ → ℕ 
 through m f u v w = cond ((not (eqb w u) && not (eqb w v)) && ltb (min u v) w) (m.join (f u w) (f w v)) m.none
 
 eqb_flip : (a b : ℕ) → eqb a b ≡ eqb b a
-eqb_flip a b = ⊎_elim (λ (e : a ≡ b). eq-eqb a b e ∙ sym (eq-eqb b a (sym e))) (λ (ne : a ≡ b → ⊥). ne_eqb a b ne ∙ sym (ne_eqb b a (λ e. ne (sym e)))) (cases_eq a b)
-
-and_flip : (a b : Bool) → (a && b) ≡ (b && a)
-and_flip true true = refl
-and_flip true false = refl
-and_flip false true = refl
-and_flip false false = refl
-
-min_flip : (a b : ℕ) → min a b ≡ min b a
-min_flip a b = omega arith
+eqb_flip a b = grind (arith, nat_tests)
 
 module _ {V : Type 0} (m : Meaning V) where
   best_below_mirror : (k : ℕ) (f g : ℕ → V) → ((w : ℕ) → f w ≡ g w) → best_below m k f ≡ best_below (mirror m) k g
@@ -97,7 +93,7 @@ module _ {V : Type 0} (m : Meaning V) where
   best_below_mirror (suc k) f g e = ap₂ (pick m) (best_below_mirror k f g e) (e k)
 
   through_mirror : (f : Table V) (u v w : ℕ) → through m f v u w ≡ through (mirror m) (flipped f) u v w
-  through_mirror f u v w = ap₂ (λ (x : Bool) (y : ℕ). cond (x && ltb y w) (m.join (f v w) (f w u)) m.none) (and_flip (not (eqb w v)) (not (eqb w u))) (min_flip v u)
+  through_mirror f u v w = ap₂ (λ (x : Bool) (y : ℕ). cond (x && ltb y w) (m.join (f v w) (f w u)) m.none) (and_comm (not (eqb w v)) (not (eqb w u))) (min_comm v u)
 
   -- either way the table is generated alike
   generated_facing : (way : Way) (n : ℕ) (f : Table V) (u v : ℕ) → facing_table way (generated m n f) u v ≡ generated (facing way m) n (facing_table way f) u v
@@ -223,24 +219,21 @@ module _ {V : Type 0} (m : Meaning V) (L : Lawful m) (n : ℕ) (small : n ≤ 65
         (subst (BestOffer μ Offers) (sym (generated_facing m way n (held m es) j s ∙ generated_is)) picked_best)
 
 -- the offers are values, and a blank strip with them holds the generated values of the row
-module _ {V : Type 0} (m : Meaning V) (L : Lawful m) (n : ℕ) (small : n ≤ 65536) (rs : List Redraw) (reg : Register n rs) (es : List (Entry V)) (S : Sorted m n es) (way : Way) (j : ℕ) (below : j < n) where
-  row_best : (first : Bool) (s : ℕ) → s < j → BestOffer m (RowOffers m first way j rs es s) (facing_table way (next_generated m n first rs es) j s)
-  row_best true s l = first_best m L n rs reg way j s l
-  row_best false s l = later_best m L n small es S way j s l below
+module _ {V : Type 0} (m : Meaning V) (L : Lawful m) (n : ℕ) (small : n ≤ 65536) (way : Way) (j : ℕ) (below : j < n) where
+  row_best : (source : Source V) → Takeable m n source → (s : ℕ) → s < j → BestOffer m (RowOffers m way j source s) (facing_table way (next_generated m n source) j s)
+  row_best (Redraws rs) t s l = first_best m L n rs.now t way j s l
+  row_best (Entries es) t s l = later_best m L n small es.now t way j s l below
 
   -- offers go to senior sheets
-  to_senior : (first : Bool) (s : ℕ) (a : V) → RowOffers m first way j rs es s a → s < j
-  to_senior true s a o = o.2.2
-  to_senior false s a o = ⊎_elim (λ (h : EntryOffers way j o.0 s a). h.2) (λ h. h.1.2.1) o.2
+  to_senior : (source : Source V) (s : ℕ) (a : V) → RowOffers m way j source s a → s < j
+  to_senior (Redraws rs) s a o = o.2.2
+  to_senior (Entries es) s a o = ⊎_elim (λ (h : EntryOffers way j o.0 s a). h.2) (λ h. h.1.2.1) o.2
 
-  offer_value : (first : Bool) (s : ℕ) (a : V) → RowOffers m first way j rs es s a → Value m a
-  offer_value first s a o = ((row_best first s (to_senior first s a o)).least a o).right
-
-  pub row_values : (first : Bool) (work start : List V) → start ≡ replicate n m.none → Relaxed m (RowOffers m first way j rs es) start work → (s : ℕ) → s < j → get_or work s m.none ≡ facing_table way (next_generated m n first rs es) j s
-  row_values first work start blank R s l =
-      let Q : List V → Type 0 = λ xs. Relaxed m (RowOffers m first way j rs es) xs work in
-      let I = subst Q blank R L (offer_value first) blank_values in
-      best_offer_is m L (RowOffers m first way j rs es s) (get_or work s m.none) (facing_table way (next_generated m n first rs es) j s) (best_offers m n (RowOffers m first way j rs es) work I s (omega arith)) (row_best first s l)
+  pub row_values : (source : Source V) → Takeable m n source → (work start : List V) → start ≡ replicate n m.none → Relaxed m (RowOffers m way j source) start work → (s : ℕ) → s < j → get_or work s m.none ≡ facing_table way (next_generated m n source) j s
+  row_values source t work start blank R s l =
+      let Q : List V → Type 0 = λ xs. Relaxed m (RowOffers m way j source) xs work in
+      let I = subst Q blank R L (λ u a o. ((row_best source t u (to_senior source u a o)).least a o).right) blank_values in
+      best_offer_is m L (RowOffers m way j source s) (get_or work s m.none) (facing_table way (next_generated m n source) j s) (best_offers m n (RowOffers m way j source) work I s (omega arith)) (row_best source t s l)
     where
       blank_values : (t : ℕ) → Value m (get_or (replicate n m.none) t m.none)
       blank_values t = ⊎_elim

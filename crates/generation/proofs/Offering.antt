@@ -11,7 +11,8 @@ use Rattle.theory.specs.Searches.{facing}
 use Rattle.theory.proofs.Orders as orders
 use Rattle.theory.proofs.Members.{among_left, among_right, among_cases}
 use Rattle.tables.specs.Places.{Part}
-use Rattle.generation.specs.Offers.{near_end, far_end, list_begin, list_end, redraw_entry, offered, relaxed_entry, relaxed_join, EntryOffers, JoinOffers, AnyOffers, InList, PresentOffers, Improved, Relaxed}
+use Rattle.tables.specs.SheetLists.{list_begin, list_end}
+use Rattle.generation.specs.Offers.{near_end, far_end, redraw_entry, offered, relaxed_entry, relaxed_join, EntryOffers, JoinOffers, AnyOffers, InList, PresentOffers, Improved, Relaxed}
 use Rattle.generation.proofs.SheetLists.{part_from, part_to}
 
 module _ {V : Type 0} (m : Meaning V) where

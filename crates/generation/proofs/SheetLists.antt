@@ -11,7 +11,8 @@ use Rattle.theory.specs.Order.{key_of, LawfulEntry}
 use Rattle.theory.proofs.Members.{among_get_or, among_place}
 use Rattle.theory.proofs.SortedTables.{key_out, key_in}
 use Rattle.tables.specs.Places.{Part}
-use Rattle.generation.specs.Offers.{near_end, far_end, list_begin, list_end}
+use Rattle.tables.specs.SheetLists.{list_begin, list_end}
+use Rattle.generation.specs.Offers.{near_end, far_end}
 
 module _ {V : Type 0} (es : List (Entry V)) (low high : ℕ) (part : List (Entry V)) (at : Part es low high part) where
   part_length : length part ≡ at.last - at.first

@@ -1,3 +1,4 @@
 pub mod Laying
 pub mod Offers
+pub mod Putting
 pub mod Rows

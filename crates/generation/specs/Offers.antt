@@ -1,6 +1,6 @@
 -- Relaxing the row of a junior sheet. The work strip holds the best value offered so far to each senior sheet.
 -- What relaxing does to it is said by what is offered, whatever the order: each place holds what it held or an offer, and nothing offered is better.
-use Rattle.std.specs.Prelude.{◌≡◌, ℕ, ◌+◌, ◌*◌, ◌<◌, ◌≤◌, Bool, true, false, cond, ◌&&◌, ◌⊎◌, List, length, ◌==◌, nat_lt, slice_index_or, slice_set}
+use Rattle.std.specs.Prelude.{◌≡◌, ℕ, ◌<◌, ◌≤◌, cond, ◌&&◌, ◌⊎◌, List, length, ◌==◌, nat_lt, slice_index_or, slice_set}
 use Rattle.theory.specs.declared.Redraw.{Redraw}
 use Rattle.theory.specs.declared.Entry.{Entry}
 use Rattle.theory.specs.declared.Way.{Way}
@@ -10,6 +10,9 @@ use Rattle.theory.specs.Chains.{Among}
 use Rattle.theory.specs.Tables.{entry}
 use Rattle.theory.specs.Order.{key_of}
 use Rattle.theory.specs.Searches.{facing}
+use Rattle.tables.specs.SheetLists.{list_begin, list_end}
+use Rattle.generation.specs.declared.source.Source.{Source}
+use Rattle.generation.specs.declared.source.Source.TheVariants.{Redraws, Entries}
 
 -- the ends of an entry as a row sees it: an out row begins at `from`, an in row at `to`
 abbrev pub near_end : {V : Type 0} → Way → Entry V → ℕ
@@ -19,15 +22,6 @@ near_end In e = e.to
 abbrev pub far_end : {V : Type 0} → Way → Entry V → ℕ
 far_end Out e = e.to
 far_end In e = e.from
-
--- where the keys of the out entries and of the in entries of a sheet begin and end
-abbrev pub list_begin : Way → ℕ → ℕ
-list_begin Out w = w * 131072
-list_begin In w = w * 131072 + 65536
-
-abbrev pub list_end : Way → ℕ → ℕ
-list_end Out w = w * 131072 + 65536
-list_end In w = w * 131072 + 131072
 
 -- a redraw as an entry
 abbrev pub redraw_entry : {V : Type 0} → Meaning V → Redraw → Entry V
@@ -66,9 +60,9 @@ abbrev pub PresentOffers : {V : Type 0} → Meaning V → Way → ℕ → List (
 PresentOffers {V} m way j es e s a = EntryOffers way j e s a ⊎ ((near_end way e ≡ j) × ((x : Entry V) × InList way es (far_end way e) x × JoinOffers m way j e.value x s a))
 
 -- what is offered to the row of j: by the redraws from an open book, by the present entries otherwise
-abbrev pub RowOffers : {V : Type 0} → Meaning V → Bool → Way → ℕ → List Redraw → List (Entry V) → ℕ → V → Type 0
-RowOffers m true way j rs es = AnyOffers (λ r. EntryOffers way j (redraw_entry m r)) rs
-RowOffers m false way j rs es = AnyOffers (PresentOffers m way j es) es
+abbrev pub RowOffers : {V : Type 0} → Meaning V → Way → ℕ → Source V → ℕ → V → Type 0
+RowOffers m way j (Redraws rs) = AnyOffers (λ r. EntryOffers way j (redraw_entry m r)) rs.now
+RowOffers m way j (Entries es) = AnyOffers (PresentOffers m way j es.now) es.now
 
 -- ys is xs with what is offered: no place is worse than before or than an offer, and each is as before or an offer
 pub record Improved {V : Type 0} (m : Meaning V) (offers : ℕ → V → Type 0) (xs ys : List V) : Type 0 where

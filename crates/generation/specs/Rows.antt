@@ -1,14 +1,13 @@
 -- The rows of a table. For each junior sheet the out entries, then the in entries, each by senior sheet: these are the rows, one after the other.
 use Rattle.std.specs.Prelude.{◌≡◌, ℕ, zero, suc, ◌<◌, ◌≤◌, cond, List, [], ◌∷◌, ◌++◌, replicate, slice_index_or}
-use Rattle.theory.specs.declared.Redraw.{Redraw}
 use Rattle.theory.specs.declared.Entry.{Entry}
 use Rattle.theory.specs.declared.Way.{Way}
 use Rattle.theory.specs.declared.Way.TheVariants.{Out, In}
 use Rattle.theory.specs.Measures.{Meaning, some}
-use Rattle.theory.specs.Chains.{Register}
 use Rattle.theory.specs.Tables.{outs, ins}
-use Rattle.theory.specs.Order.{Sorted}
 use Rattle.theory.specs.Searches.{new_entry}
+use Rattle.generation.specs.declared.source.Source.{Source}
+use Rattle.generation.specs.Laying.{Takeable}
 
 -- the pairs of a row
 abbrev pub row_pairs : Way → ℕ → List (ℕ × ℕ)
@@ -24,10 +23,9 @@ abbrev pub row_below : {V : Type 0} → Meaning V → Way → ℕ → List V →
 row_below m way j work zero = []
 row_below m way j work (suc s) = row_below m way j work s ++ row_at m way j work s
 
--- a row of j can be laid over n sheets: the register is one of n sheets, the present entries stand in order, the work strip is blank
-pub record Rowable {V : Type 0} (m : Meaning V) (n : ℕ) (rs : List Redraw) (es : List (Entry V)) (j : ℕ) (work : List V) : Type 0 where
+-- a row of j can be laid over n sheets: from what a round can take, with the work strip blank
+pub record Rowable {V : Type 0} (m : Meaning V) (n : ℕ) (source : Source V) (j : ℕ) (work : List V) : Type 0 where
   pub small : n ≤ 65536
-  pub register : Register n rs
-  pub in_order : Sorted m n es
+  pub takeable : Takeable m n source
   pub junior_below : j < n
   pub work_blank : work ≡ replicate n m.none

@@ -1,13 +1,16 @@
 // Relaxing: the work strip holds, for each senior sheet, the best value offered so far to the pair of the junior sheet and that one.
-ghost use Rattle.std.specs.Prelude.{◌≡◌};
+ghost use Rattle.std.specs.Prelude.{◌≡◌, ℕ};
 ghost use Rattle.theory.specs.Order.{key_of};
 ghost use Rattle.tables.specs.Places.{Rising};
+ghost use Rattle.generation.specs.Laying.{Takeable};
 ghost use Rattle.generation.specs.Offers.{offered, relaxed_entry, relaxed_join, redraw_entry, Relaxed, AnyOffers, EntryOffers, JoinOffers, PresentOffers, RowOffers};
 
-use crate::ways::{far, joined, list_of, near};
+use crate::source::Source;
+use crate::ways::Row;
 use measures::Measure;
 use strips::{at, put};
-use theory::{Entry, Redraw, Way};
+use tables::list_of;
+use theory::{Entry, Redraw};
 
 /// Offers a value to a sheet, which keeps the better one.
 fn offer<M: Measure>(work: &mut [M], sheet: u16, value: M)
@@ -15,24 +18,6 @@ fn offer<M: Measure>(work: &mut [M], sheet: u16, value: M)
 {
     if value.better(at(work, sheet as usize, value)) {
         put(work, sheet as usize, value);
-    }
-}
-
-/// Relaxes an entry: if it leads from the junior sheet to a senior one, that one is offered its value.
-fn relax_entry<M: Measure>(way: Way, junior: u16, entry: Entry<M>, work: &mut [M])
-    ensures { work.new ≡ relaxed_entry M.Measure.meaning way junior entry work.old }
-{
-    if near(way, entry) == junior && far(way, entry) < junior {
-        offer(work, far(way, entry), entry.value);
-    }
-}
-
-/// Relaxes an entry that leads on from where one of the junior sheet with the given value ends: if it leads to a sheet senior to the junior one, that one is offered their join.
-fn relax_join<M: Measure>(way: Way, junior: u16, value: M, entry: Entry<M>, work: &mut [M])
-    ensures { work.new ≡ relaxed_join M.Measure.meaning way junior value entry work.old }
-{
-    if far(way, entry) < junior {
-        offer(work, far(way, entry), joined(way, value, entry.value));
     }
 }
 
@@ -47,69 +32,72 @@ fn as_entry<M: Measure>(redraw: Redraw) -> Entry<M>
     }
 }
 
-/// Relaxes every redraw.
-fn relax_redraws<M: Measure>(way: Way, junior: u16, register: &[Redraw], work: &mut [M])
-    ensures { Relaxed M.Measure.meaning (AnyOffers (λ r. EntryOffers way junior (redraw_entry M.Measure.meaning r)) register.now) work.old work.new }
-{
-    for redraw in register {
-        relax_entry(way, junior, as_entry(*redraw), work);
+impl Row {
+    /// Relaxes an entry: if it leads from the junior sheet to a senior one, that one is offered its value.
+    fn relax_entry<M: Measure>(self, entry: Entry<M>, work: &mut [M])
+        ensures { work.new ≡ relaxed_entry M.Measure.meaning self.way self.junior entry work.old }
+    {
+        let (near, far) = self.ends(entry);
+        if near == self.junior && far < self.junior {
+            offer(work, far, entry.value);
+        }
     }
-}
 
-/// Relaxes every entry of a list that leads on from where one of the junior sheet with the given value ends.
-fn relax_list<M: Measure>(way: Way, junior: u16, value: M, list: &[Entry<M>], work: &mut [M])
-    ensures { Relaxed M.Measure.meaning (AnyOffers (JoinOffers M.Measure.meaning way junior value) list.now) work.old work.new }
-{
-    for item in list {
-        relax_join(way, junior, value, *item, work);
+    /// Relaxes an entry that leads on from where one of the junior sheet with the given value ends: if it leads to a sheet senior to the junior one, that one is offered their join.
+    fn relax_join<M: Measure>(self, value: M, entry: Entry<M>, work: &mut [M])
+        ensures { work.new ≡ relaxed_join M.Measure.meaning self.way self.junior value entry work.old }
+    {
+        let (_, far) = self.ends(entry);
+        if far < self.junior {
+            offer(work, far, self.joined(value, entry.value));
+        }
     }
-}
 
-/// Relaxes a present entry of the junior sheet, and the list of the sheet to which it leads.
-fn relax_present<M: Measure>(
-    way: Way,
-    junior: u16,
-    table: &[Entry<M>],
-    entry: Entry<M>,
-    work: &mut [M],
-)
-    ensures { Rising key_of table.now → Relaxed M.Measure.meaning (PresentOffers M.Measure.meaning way junior table.now entry) work.old work.new }
-{
-    if near(way, entry) == junior {
-        relax_entry(way, junior, entry, work);
-        relax_list(
-            way,
-            junior,
-            entry.value,
-            list_of(way, table, far(way, entry)),
-            work,
-        );
+    /// Relaxes every redraw.
+    fn relax_redraws<M: Measure>(self, register: &[Redraw], work: &mut [M])
+        ensures { Relaxed M.Measure.meaning (AnyOffers (λ r. EntryOffers self.way self.junior (redraw_entry M.Measure.meaning r)) register.now) work.old work.new }
+    {
+        for redraw in register {
+            self.relax_entry(as_entry(*redraw), work);
+        }
     }
-}
 
-/// Relaxes every present entry.
-fn relax_table<M: Measure>(way: Way, junior: u16, table: &[Entry<M>], work: &mut [M])
-    ensures { Rising key_of table.now → Relaxed M.Measure.meaning (AnyOffers (PresentOffers M.Measure.meaning way junior table.now) table.now) work.old work.new }
-{
-    for item in table {
-        relax_present(way, junior, table, *item, work);
+    /// Relaxes every entry of a list that leads on from where one of the junior sheet with the given value ends.
+    fn relax_list<M: Measure>(self, value: M, list: &[Entry<M>], work: &mut [M])
+        ensures { Relaxed M.Measure.meaning (AnyOffers (JoinOffers M.Measure.meaning self.way self.junior value) list.now) work.old work.new }
+    {
+        for item in list {
+            self.relax_join(value, *item, work);
+        }
     }
-}
 
-/// Relaxes what the next round takes for the row of a junior sheet: the redraws from an open book, otherwise the present entries.
-pub fn relax_row<M: Measure>(
-    first: bool,
-    way: Way,
-    junior: u16,
-    register: &[Redraw],
-    table: &[Entry<M>],
-    work: &mut [M],
-)
-    ensures { Rising key_of table.now → Relaxed M.Measure.meaning (RowOffers M.Measure.meaning first way junior register.now table.now) work.old work.new }
-{
-    if first {
-        relax_redraws(way, junior, register, work);
-    } else {
-        relax_table(way, junior, table, work);
+    /// Relaxes a present entry of the junior sheet, and the list of the sheet to which it leads.
+    fn relax_present<M: Measure>(self, table: &[Entry<M>], entry: Entry<M>, work: &mut [M])
+        ensures { Rising key_of table.now → Relaxed M.Measure.meaning (PresentOffers M.Measure.meaning self.way self.junior table.now entry) work.old work.new }
+    {
+        let (near, far) = self.ends(entry);
+        if near == self.junior {
+            self.relax_entry(entry, work);
+            self.relax_list(entry.value, list_of(table, self.way, far), work);
+        }
+    }
+
+    /// Relaxes every present entry.
+    fn relax_table<M: Measure>(self, table: &[Entry<M>], work: &mut [M])
+        ensures { Rising key_of table.now → Relaxed M.Measure.meaning (AnyOffers (PresentOffers M.Measure.meaning self.way self.junior table.now) table.now) work.old work.new }
+    {
+        for item in table {
+            self.relax_present(table, *item, work);
+        }
+    }
+
+    /// Relaxes what the next round takes for the row.
+    pub fn relax<M: Measure>(self, source: Source<M>, work: &mut [M])
+        ensures { (n : ℕ) → Takeable M.Measure.meaning n source.entry → Relaxed M.Measure.meaning (RowOffers M.Measure.meaning self.way self.junior source.entry) work.old work.new }
+    {
+        match source {
+            Source::Redraws(register) => self.relax_redraws(register, work),
+            Source::Entries(table) => self.relax_table(table, work),
+        }
     }
 }

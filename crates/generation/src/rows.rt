@@ -1,60 +1,18 @@
-// A row of the generated table: the entries of one way between a junior sheet and its seniors, in order.
-ghost use Rattle.std.specs.Prelude.{◌≡◌, ℕ, ◌≤◌, length, replicate};
+// A row of the generated table is laid: relaxed in the work strip, then put after the entries of the spare strip, in order.
+ghost use Rattle.std.specs.Prelude.{◌≡◌, ℕ, length, replicate, is_ok};
 ghost use Rattle.theory.specs.Measures.{Lawful};
 ghost use Rattle.theory.specs.Tables.{entries_at};
-ghost use Rattle.strips.specs.Strips.{Added};
+ghost use Rattle.strips.specs.Strips.{Lengthened};
 ghost use Rattle.generation.specs.Laying.{next_generated};
+ghost use Rattle.generation.specs.Putting.{Put};
 ghost use Rattle.generation.specs.Rows.{row_at, row_below, row_pairs, Rowable};
 
-use crate::relaxing::relax_row;
-use crate::ways::between;
+use crate::source::Source;
+use crate::ways::Row;
 use measures::Measure;
-use strips::{at, put, wipe};
-use theory::{Entry, Redraw, Way};
-
-/// Writes the entry between the junior sheet and a senior one, if that one was offered a value, at the place, and answers the place after it; nothing if there is no such place.
-fn add<M: Measure>(
-    way: Way,
-    junior: u16,
-    senior: u16,
-    work: &[M],
-    spare: &mut [Entry<M>],
-    place: usize,
-) -> Option<usize>
-    ensures places { length spare.new ≡ length spare.old }
-    ensures cases { place ≤ length spare.old → Added spare.old place (row_at M.Measure.meaning way junior work.now senior) result spare.new }
-{
-    let value = at(work, senior as usize, M::none());
-    if !value.better(M::none()) {
-        return Some(place);
-    }
-    if place >= spare.len() {
-        return None;
-    }
-    put(spare, place, between(way, junior, senior, value));
-    Some(place + 1)
-}
-
-/// Writes the entries of the row after the first `count` of the spare strip and answers how many it then holds; nothing if they do not fit.
-fn collect<M: Measure>(
-    way: Way,
-    junior: u16,
-    work: &[M],
-    spare: &mut [Entry<M>],
-    count: usize,
-) -> Option<usize>
-    ensures places { length spare.new ≡ length spare.old }
-    ensures cases { count ≤ length spare.old → Added spare.old count (row_below M.Measure.meaning way junior work.now junior) result spare.new }
-{
-    let mut place = count;
-    for senior in 0..junior {
-        let Some(next) = add(way, junior, senior, work, spare, place) else {
-            return None;
-        };
-        place = next;
-    }
-    Some(place)
-}
+use strips::{Full, Strip, at, wipe};
+use tables::entry_between;
+use theory::Entry;
 
 /// Makes the work strip blank.
 pub fn blank<M: Measure>(work: &mut [M])
@@ -63,24 +21,50 @@ pub fn blank<M: Measure>(work: &mut [M])
     wipe(work, 0, M::none());
 }
 
-/// Lays one row after the first `count` entries of the spare strip and answers how many it then holds; nothing if they do not fit.
-/// The work strip is lent blank and is blank again.
-pub fn lay_row<M: Measure>(
-    first: bool,
-    way: Way,
-    junior: u16,
-    register: &[Redraw],
-    table: &[Entry<M>],
-    spare: &mut [Entry<M>],
-    count: usize,
-    work: &mut [M],
-) -> Option<usize>
-    ensures places { length spare.new ≡ length spare.old }
-    ensures work { work.new ≡ replicate (length work.old) M.Measure.meaning.none }
-    ensures laid { Lawful M.Measure.meaning → (n : ℕ) → Rowable M.Measure.meaning n register.now table.now junior work.old → count ≤ length spare.old → Added spare.old count (entries_at M.Measure.meaning (next_generated M.Measure.meaning n first register.now table.now) (row_pairs way junior)) result spare.new }
-{
-    relax_row(first, way, junior, register, table, work);
-    let end = collect(way, junior, work, spare, count);
-    blank(work);
-    end
+impl Row {
+    /// Puts the entry between the junior sheet and a senior one after those of the spare strip, if that one was offered a value.
+    fn add<M: Measure>(
+        self,
+        senior: u16,
+        work: &[M],
+        spare: &mut Strip<Entry<M>>,
+    ) -> Result<(), Full>
+        ensures kept { Lengthened spare.old spare.new }
+        ensures put { Put spare.old (row_at M.Measure.meaning self.way self.junior work.now senior) (is_ok result) spare.new }
+    {
+        let value = at(work, senior as usize, M::none());
+        if value.better(M::none()) {
+            spare.push(entry_between(self.way, self.junior, senior, value))?;
+        }
+        Ok(())
+    }
+
+    /// Puts the entries of the row after those of the spare strip; refused if they do not fit.
+    fn collect<M: Measure>(self, work: &[M], spare: &mut Strip<Entry<M>>) -> Result<(), Full>
+        ensures kept { Lengthened spare.old spare.new }
+        ensures put { Put spare.old (row_below M.Measure.meaning self.way self.junior work.now self.junior) (is_ok result) spare.new }
+    {
+        for senior in 0..self.junior {
+            self.add(senior, work, spare)?;
+        }
+        Ok(())
+    }
+
+    /// Lays the row after the entries of the spare strip; refused if it does not fit.
+    /// The work strip is lent blank and is blank again.
+    pub fn lay<M: Measure>(
+        self,
+        source: Source<M>,
+        spare: &mut Strip<Entry<M>>,
+        work: &mut [M],
+    ) -> Result<(), Full>
+        ensures kept { Lengthened spare.old spare.new }
+        ensures work { work.new ≡ replicate (length work.old) M.Measure.meaning.none }
+        ensures laid { Lawful M.Measure.meaning → (n : ℕ) → Rowable M.Measure.meaning n source.entry self.junior work.old → Put spare.old (entries_at M.Measure.meaning (next_generated M.Measure.meaning n source.entry) (row_pairs self.way self.junior)) (is_ok result) spare.new }
+    {
+        self.relax(source, work);
+        let laid = self.collect(work, spare);
+        blank(work);
+        laid
+    }
 }

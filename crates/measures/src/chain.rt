@@ -15,7 +15,7 @@ const TOO_MANY: u16 = u16::MAX;
 const CLEANEST: u8 = 5;
 
 /// No chain, or the steps of a chain and its lowest grade.
-#[derive(Clone, Copy)]
+#[derive(Debug, Clone, Copy, PartialEq, Eq)]
 pub enum Chain {
     /// No chain.
     None,

@@ -12,7 +12,7 @@ use theory::Redraw;
 const NONE: u32 = u32::MAX;
 
 /// The minutes of a chain, or none.
-#[derive(Clone, Copy)]
+#[derive(Debug, Clone, Copy, PartialEq, Eq)]
 pub struct Minutes {
     pub minutes: u32,
 }

@@ -15,7 +15,7 @@ const NONE: u8 = 0;
 const CLEANEST: u8 = 5;
 
 /// The lowest grade of a chain, or none.
-#[derive(Clone, Copy)]
+#[derive(Debug, Clone, Copy, PartialEq, Eq)]
 pub struct Weakest {
     pub grade: u8,
 }

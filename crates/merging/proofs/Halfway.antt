@@ -22,6 +22,15 @@ take_fewer p i ss ts l e = sym (take-take p i ss l) ∙ ap (take p) e ∙ take-t
 pub get_or_front : {X : Type 0} (p i : ℕ) (ss ts : List X) (d : X) → p < i → take i ss ≡ take i ts → get_or ss p d ≡ get_or ts p d
 get_or_front {X} p i ss ts d l e = sym (get_or-take i ss p d l) ∙ ap (λ (us : List X). get_or us p d) e ∙ get_or-take i ts p d l
 
+-- the last of the front of a run, and the front without it
+pub last_left : {X : Type 0} (ys zs : List X) (y : X) → zs ≡ take (length zs) ys → 0 < length zs → y ≡ get_or zs (length zs - 1) y → y ≡ get_or ys (length zs - 1) y
+last_left {X} ys zs y e l h = h ∙ ap (λ (us : List X). get_or us (length zs - 1) y) e ∙ get_or-take (length zs) ys (length zs - 1) y (omega arith)
+
+pub fewer_left : {X : Type 0} (ys zs : List X) → zs ≡ take (length zs) ys → take (length zs - 1) zs ≡ take (length (take (length zs - 1) zs)) ys
+fewer_left {X} ys zs e =
+    ap (λ (us : List X). take (length zs - 1) us) e ∙ take-take (length zs - 1) (length zs) ys (omega arith)
+    ∙ ap (λ (k : ℕ). take k ys) (sym (length-take-le (length zs - 1) zs (omega arith)))
+
 -- the first i of the n entries of the table `old` and the first j of the run ys are still to come; ts is the table as it stands
 pub record Halfway {V : Type 0} (old : List (Entry V)) (n : ℕ) (ys : List (Entry V)) (i j : ℕ) (ts : List (Entry V)) : Type 0 where
   pub room : n + length ys ≤ length old
@@ -31,6 +40,13 @@ pub record Halfway {V : Type 0} (old : List (Entry V)) (n : ℕ) (ys : List (Ent
   pub front : take i ts ≡ take i old
   pub rest : drop (n + length ys) ts ≡ drop (n + length ys) old
   pub written : Mergeable (take n old) ys → Written key_of (take n old) ys i j (drop (i + j) (take (n + length ys) ts))
+
+-- the place to be written next, before those that are written
+pub place_last : {X : Type 0} (zs : List X) (i : ℕ) → 0 < length zs → i + length (take (length zs - 1) zs) + 1 ≡ i + length zs
+place_last zs i l = omega (arith, length-take-le (length zs - 1) zs (omega arith))
+
+pub place_within : {V : Type 0} {old : List (Entry V)} {n i : ℕ} {ys ts : List (Entry V)} (zs : List (Entry V)) → Halfway old n ys i (length zs) ts → 0 < length zs → i + length (take (length zs - 1) zs) < length old
+place_within zs h l = omega (arith, h.room, h.first_within, h.second_within, length-take-le (length zs - 1) zs (omega arith))
 
 -- the start
 pub halfway_none : {V : Type 0} (old : List (Entry V)) (n : ℕ) (ys : List (Entry V)) → n + length ys ≤ length old → Halfway old n ys n (length ys) old
@@ -87,22 +103,27 @@ module _ {V : Type 0} (old : List (Entry V)) (n : ℕ) (ys : List (Entry V)) (i 
         }
 
   -- one turn: the entry of the table is written
-  pub halfway_first : (v y d : Entry V) → 0 < i → 0 < j → v ≡ get_or ts (i - 1) v → y ≡ get_or ys (j - 1) y → key_of y < key_of (get_or ts (i - 1) d) → Halfway old n ys (i - 1) j (set ts (i + j - 1) v)
-  halfway_first v y d p q e f l =
-      turn (i - 1) j (i + j - 1) v (omega arith) (omega arith) (omega arith) (omega arith)
-      (λ m w. written_more key_of (take n old) ys i j (i - 1) v _ (omega arith) (omega (arith, length-take-le n old (omega arith))) (e ∙ here v p) m.first_rises (below m) w)
+  pub halfway_first : (p : ℕ) (x y d : Entry V) → p + 1 ≡ i + j → 0 < i → 0 < j → y ≡ get_or ys (j - 1) y → key_of y < key_of (get_or ts (i - 1) d) → Halfway old n ys (i - 1) j (set ts p (get_or ts (i - 1) x))
+  halfway_first p x y d one q r f l =
+      turn (i - 1) j p v (omega arith) one (omega arith) (omega arith)
+      (λ m w. written_more key_of (take n old) ys i j (i - 1) v _ (omega arith) (omega (arith, length-take-le n old (omega arith))) (same v ∙ here v q) m.first_rises (below m) w)
     where
-      known : key_of y < key_of v
-      known = subst (λ (t : Entry V). key_of y < key_of t) (get_or_default ts (i - 1) d v (omega arith) ∙ sym e) l
+      v : Entry V
+      v = get_or ts (i - 1) x
+
+      same : (e : Entry V) → v ≡ get_or ts (i - 1) e
+      same e = get_or_default ts (i - 1) x e (omega arith)
 
       below : Mergeable (take n old) ys → (b : ℕ) (t : Entry V) → b < j → key_of (get_or ys b t) < key_of v
-      below m b t s = under_last key_of ys (j - 1) (key_of v) y m.second_rises (omega (arith, h.second_within)) (subst (λ (u : Entry V). key_of u < key_of v) f known) b t (omega arith)
+      below m b t s =
+          under_last key_of ys (j - 1) (key_of v) y m.second_rises (omega (arith, h.second_within))
+          (omega (arith, ap key_of f, ap key_of (same d))) b t (omega arith)
 
   -- one turn: the entry of the run is written
-  pub halfway_second : (y : Entry V) → 0 < j → y ≡ get_or ys (j - 1) y → (i ≡ 0) ⊎ ((d : Entry V) × (key_of (get_or ts (i - 1) d) ≤ key_of y)) → Halfway old n ys i (j - 1) (set ts (i + j - 1) y)
-  halfway_second y q f l =
-      turn i (j - 1) (i + j - 1) y (omega arith) (omega arith) (omega arith) (omega arith)
-      (λ m w. written_swap key_of ys (take n old) (j - 1) i _ (written_more key_of ys (take n old) j i (j - 1) y _ (omega arith) (omega (arith, h.second_within)) f m.second_rises (below m) (written_swap key_of (take n old) ys i j _ w)))
+  pub halfway_second : (p k : ℕ) (y : Entry V) → p + 1 ≡ i + j → k + 1 ≡ j → y ≡ get_or ys k y → (i ≡ 0) ⊎ ((d : Entry V) × (key_of (get_or ts (i - 1) d) ≤ key_of y)) → Halfway old n ys i k (set ts p y)
+  halfway_second p k y one q f l =
+      turn i k p y (omega arith) one (omega arith) (omega arith)
+      (λ m w. written_swap key_of ys (take n old) k i _ (written_more key_of ys (take n old) j i k y _ q (omega (arith, h.second_within)) f m.second_rises (below m) (written_swap key_of (take n old) ys i j _ w)))
     where
       below : Mergeable (take n old) ys → (b : ℕ) (d : Entry V) → b < i → key_of (get_or (take n old) b d) < key_of y
       below m b d s =
@@ -111,11 +132,11 @@ module _ {V : Type 0} (old : List (Entry V)) (n : ℕ) (ys : List (Entry V)) (i 
           (λ (t : (d : Entry V) × (key_of (get_or ts (i - 1) d) ≤ key_of y)).
           let at : get_or ts (i - 1) t.0 ≡ get_or (take n old) (i - 1) t.0 = here t.0 (omega arith) in
           let p : i - 1 < length (take n old) = omega (arith, length-take-le n old (omega arith)) in
-          let r : j - 1 < length ys = omega (arith, h.second_within) in
+          let r : k < length ys = omega (arith, h.second_within) in
           under_last key_of (take n old) (i - 1) (key_of y) t.0 m.first_rises p
           (strictly (key_of (get_or (take n old) (i - 1) t.0)) (key_of y)
           (subst (λ (x : Entry V). key_of x ≤ key_of y) at t.1)
-          (λ same. m.apart (i - 1) (j - 1) t.0 p r (same ∙ ap key_of (f ∙ get_or_default ys (j - 1) y t.0 r))))
+          (λ same. m.apart (i - 1) k t.0 p r (same ∙ ap key_of (f ∙ get_or_default ys k y t.0 r))))
           b d (omega arith))
           l
 
@@ -132,7 +153,3 @@ module _ {V : Type 0} (old : List (Entry V)) (n : ℕ) (ys : List (Entry V)) (i 
           sym (take-append-drop i (take (n + length ys) ts))
           ∙ ap (λ (us : List (Entry V)). us ++ drop i (take (n + length ys) ts))
           (take-take i (n + length ys) ts (omega (arith, h.first_within)) ∙ h.front ∙ sym (take-take i n old h.first_within))
-
-  -- the state, with what it gives once the run is used up
-  pub halfway_ends : Halfway old n ys i j ts × (j ≡ 0 → Mergeable (take n old) ys → Merged (take n old) ys (take (n + length ys) ts))
-  halfway_ends = (h, halfway_all)

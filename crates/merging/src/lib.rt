@@ -1,10 +1,12 @@
 // Merging: a run of new entries is put into a table in place, in the order of the table.
 #![tactic(auto)]
 
-ghost use Rattle.std.specs.Prelude.{◌≡◌, ◌+◌, ◌<◌, ◌≤◌, length, take, drop, nat_lt};
+ghost use Rattle.std.specs.Prelude.{◌≡◌, ◌+◌, ◌<◌, ◌≤◌, length, drop, nat_lt};
 ghost use Rattle.theory.specs.Order.{key_of};
+ghost use Rattle.strips.specs.Strips.{used};
 ghost use Rattle.merging.specs.Merging.{Mergeable, Merged};
 
+use strips::Strip;
 use tables::key;
 use theory::Entry;
 
@@ -15,28 +17,30 @@ fn stands_after<V>(one: &Entry<V>, other: &Entry<V>) -> bool
     key(one.from, one.to) > key(other.from, other.to)
 }
 
-/// Puts the entries of `run` among the first `count` entries of `table`, in place and from the back, so that the keys still rise.
+/// Puts the entries of `run` among those of the table, in place and from the back, so that the keys still rise.
 /// Nothing is done if the table has too few places for both.
-pub fn merge<V: Copy>(table: &mut [Entry<V>], count: usize, run: &[Entry<V>])
-    ensures places { length table.new ≡ length table.old }
-    ensures too_long { length table.old < count + length run.now → table.new ≡ table.old }
-    ensures rest { drop (count + length run.now) table.new ≡ drop (count + length run.now) table.old }
-    ensures merged { count + length run.now ≤ length table.old → Mergeable (take count table.old) run.now → Merged (take count table.old) run.now (take (count + length run.now) table.new) }
+pub fn merge<V: Copy>(table: &mut Strip<Entry<V>>, mut run: &[Entry<V>])
+    ensures places { length table.new.cells.now ≡ length table.old.cells.now }
+    ensures too_long { length table.old.cells.now < table.old.count + length run.now → (table.new.cells.now ≡ table.old.cells.now) × (table.new.count ≡ table.old.count) }
+    ensures count { table.old.count + length run.now ≤ length table.old.cells.now → table.new.count ≡ table.old.count + length run.now }
+    ensures rest { drop (table.old.count + length run.now) table.new.cells.now ≡ drop (table.old.count + length run.now) table.old.cells.now }
+    ensures merged { table.old.count + length run.now ≤ length table.old.cells.now → Mergeable (used table.old.cells.now table.old.count) run.now → Merged (used table.old.cells.now table.old.count) run.now (used table.new.cells.now table.new.count) }
+    ensures same { table.new.cells.ghost_name ≡ table.old.cells.ghost_name }
 {
-    if count > table.len() || run.len() > table.len() - count {
+    let mut left = table.count;
+    if left > table.places() || run.len() > table.places() - left {
         return;
     }
-    // The first `i` entries of the table and the first `j` of the run are still to be placed; place `i + j - 1` is the next to be written.
-    let mut i = count;
-    let mut j = run.len();
-    while j > 0 {
-        let new = run[j - 1];
-        if i > 0 && stands_after(&table[i - 1], &new) {
-            table[i + j - 1] = table[i - 1];
-            i -= 1;
+    table.count += run.len();
+    // The first `left` entries of the table, and those of `run`, are still to be placed; the place after them all is written next.
+    while let [front @ .., last] = run {
+        let place = left + front.len();
+        if left > 0 && stands_after(&table.cells[left - 1], last) {
+            left -= 1;
+            table.cells[place] = table.cells[left];
         } else {
-            table[i + j - 1] = new;
-            j -= 1;
+            table.cells[place] = *last;
+            run = front;
         }
     }
 }

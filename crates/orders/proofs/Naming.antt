@@ -1,30 +1,22 @@
--- Which first word a name spells: one word more that is compared.
-use Rattle.std.proofs.Common.{◌≡◌, ℕ, ◌+◌, ◌<◌, ◌≤◌, true, false, cond, List, [], ◌∷◌, length, get_or, drop, Some, None, sym, refl, ap, ◌∙◌, ⊎_elim}
-use Rattle.std.specs.List.{AllByRecursion}
+-- Which first word a name spells.
+use Rattle.std.proofs.Common.{◌≡◌, ℕ, true, false, cond, List, [], ◌∷◌, Some, None, Option, sym, refl, ap, ◌∙◌, ⊎_elim}
+use Rattle.std.specs.List.{AllByRecursion, find}
+use Rattle.std.specs.Option.{option_map}
 use Rattle.std.specs.Str.{bytes_eq}
 use Rattle.std.proofs.lemmas.Slice.Eq.{bytes_eq-Decides}
-use Rattle.std.proofs.lemmas.List.{at_drop_more, at_drop_all}
-use Rattle.std.proofs.lemmas.Bool.{cond-true, cond-false, cases_Bool, both_ways}
+use Rattle.std.proofs.lemmas.Bool.{cond-false, cases_Bool, both_ways}
 use Rattle.orders.specs.declared.vocabulary.FirstWord.{FirstWord}
 use Rattle.words.specs.Tokens.{only_digits}
 use Rattle.orders.specs.Vocabulary.{spelling, spelled_so, first_words, named_by}
 
-module _ (name : List ℕ) (ws : List FirstWord) (i : ℕ) (d : FirstWord) (inside : i < length ws) where
-  step : spelled_so name (drop i ws) ≡ cond (bytes_eq name (spelling (get_or ws i d))) (Some (get_or ws i d)) (spelled_so name (drop (i + 1) ws))
-  step = at_drop_more (spelled_so name) ws i d inside
+-- the first of the words that is spelled so is the first that a search by its spelling finds
+spelled_found_in : (name : List ℕ) (ws : List FirstWord) → find (λ w. bytes_eq name (spelling w)) ws ≡ spelled_so name ws
+spelled_found_in name [] = refl
+spelled_found_in name (w ∷ ws) = ap (cond (bytes_eq name (spelling w)) (Some w)) (spelled_found_in name ws)
 
-  module _ (text : List ℕ) (is : text ≡ spelling (get_or ws i d)) (old : spelled_so name (drop i ws) ≡ spelled_so name ws) where
-    -- the word that is spelled so is the answer
-    pub spelled_here : true ≡ bytes_eq name text → Some (get_or ws i d) ≡ spelled_so name ws
-    spelled_here e = sym (cond-true _ _ _ (ap (bytes_eq name) (sym is) ∙ sym e)) ∙ (sym step ∙ old)
-
-    -- after a word that is not spelled so the rest decides
-    pub spelled_more : false ≡ bytes_eq name text → spelled_so name (drop (i + 1) ws) ≡ spelled_so name ws
-    spelled_more e = sym (cond-false _ _ _ (ap (bytes_eq name) (sym is) ∙ sym e)) ∙ (sym step ∙ old)
-
--- with all words compared, none is spelled so
-pub spelled_none : (name : List ℕ) (ws : List FirstWord) (i : ℕ) → length ws ≤ i → spelled_so name (drop i ws) ≡ spelled_so name ws → None ≡ spelled_so name ws
-spelled_none name ws i l h = sym (at_drop_all (spelled_so name) ws i l) ∙ h
+pub spelled_found : (name : List ℕ) (ws : List FirstWord) (r : Option FirstWord) → option_map (λ w. w) r ≡ find (λ w. bytes_eq name (spelling w)) ws → r ≡ spelled_so name ws
+spelled_found name ws None e = e ∙ spelled_found_in name ws
+spelled_found name ws (Some w) e = e ∙ spelled_found_in name ws
 
 -- digits spell none of the words that are not made of digits
 spelled_by_digits : (name : List ℕ) (ws : List FirstWord) → only_digits name ≡ true → AllByRecursion (λ w. only_digits (spelling w) ≡ false) ws → None ≡ spelled_so name ws

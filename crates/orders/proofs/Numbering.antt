@@ -1,71 +1,97 @@
--- The numbers that follow a line's first word: one word more that is read, and the command in the end.
-use Rattle.std.proofs.Common.{◌≡◌, ℕ, ◌+◌, ◌<◌, ◌≤◌, true, false, cond, List, length, get_or, drop, set, Some, None, sym, ◌∙◌, subst, ⊎_elim, arith}
-use Rattle.std.proofs.lemmas.List.{at_drop_more, at_drop_all, get_or-set_same, get_or-set_other, get_or-map, get_or_past, length-map, length-set}
-use Rattle.std.proofs.lemmas.Bool.{cond-true, cond-false, cases_Bool, cases_lt, cases_eq}
+-- The numbers that follow a line's first word, one word after another, and what they make with it.
+use Rattle.std.proofs.Common.{◌≡◌, ℕ, ◌+◌, Bool, true, false, cond, List, [], ◌∷◌, length, get_or, Some, None, Ok, Err, sym, refl, ap, ◌∙◌, arith}
+use Rattle.std.proofs.lemmas.Bool.{cond-true, cond-false, eq-eqb}
+use Rattle.orders.specs.declared.commands.Command.{Command}
+use Rattle.orders.specs.declared.commands.Command.TheVariants as command
+use Rattle.orders.specs.declared.refusals.LineRefusal.{LineRefusal}
+use Rattle.orders.specs.declared.refusals.LineRefusal.TheVariants as refusal
+use Rattle.orders.specs.declared.vocabulary.FirstWord.{FirstWord}
+use Rattle.orders.specs.declared.vocabulary.FirstWord.TheVariants as word
 use Rattle.words.specs.declared.split.Place.{Place}
-use Rattle.orders.specs.Commands.{faulty_from, numbers_of}
-use Rattle.words.specs.Numbers.{value, is_number, number_of}
+use Rattle.orders.specs.Commands.{command_of, command_with, command_at, faulty_from, number_or_fault, numbers_of}
+use Rattle.words.specs.Numbers.{value, is_number}
 use Rattle.words.specs.Tokens.{word_at}
+use Rattle.orders.specs.Vocabulary.{numbers_after}
 
--- a word with a number is one, of that value
-pub number_is : (w : List ℕ) (n : ℕ) → Some n ≡ number_of w → (is_number w ≡ true) × (value w ≡ n)
-number_is w n h =
-    ⊎_elim
-    (λ e. let f : Some n ≡ Some (value w) = h ∙ cond-true (is_number w) _ _ e in (e, cc))
-    (λ e. let f : Some n ≡ None = h ∙ cond-false (is_number w) _ _ e in let z : ◌≡◌ {A = ℕ} 0 1 = cc in absurd (omega arith))
-    (cases_Bool (is_number w))
+-- a word that is read as a number is one, of that value
+read : (b : Bool) (v m : ℕ) (e : LineRefusal) → Ok m ≡ cond b (Ok v) (Err e) → (b ≡ true) × (v ≡ m)
+read true v m e h = (refl, cc)
+read false v m e h = absurd (let z : ◌≡◌ {A = ℕ} 0 1 = cc in omega arith)
 
--- a word with no number is none
-pub number_is_none : (w : List ℕ) → None ≡ number_of w → is_number w ≡ false
-number_is_none w h =
-    ⊎_elim
-    (λ e. let f : None ≡ Some (value w) = h ∙ cond-true (is_number w) _ _ e in let z : ◌≡◌ {A = ℕ} 0 1 = cc in absurd (omega arith))
-    (λ e. e)
-    (cases_Bool (is_number w))
+-- a word that is refused is none
+refused : (b : Bool) (v : ℕ) (e f : LineRefusal) → Err f ≡ cond b (Ok v) (Err e) → (b ≡ false) × (f ≡ e)
+refused true v e f h = absurd (let z : ◌≡◌ {A = ℕ} 0 1 = cc in omega arith)
+refused false v e f h = (refl, cc)
 
--- the words read so far, i of them, are numbers, and the first four stand in the list
-pub record Sofar (line : List ℕ) (places : List Place) (i : ℕ) (numbers : List ℕ) : Type 0 where
-  pub faults : faulty_from line (i + 1) (drop i places) ≡ faulty_from line 1 places
-  pub held : (k : ℕ) → k < 4 → k < i → get_or numbers k 0 ≡ get_or (numbers_of line places) k 0
-  pub rest : (k : ℕ) → i ≤ k → get_or numbers k 0 ≡ 0
-  pub four : length numbers ≡ 4
+module _ (line : List ℕ) (n : ℕ) (p : Place) (ps : List Place) where
+  on : (m : ℕ) → Ok m ≡ number_or_fault line n p → faulty_from line n (p ∷ ps) ≡ faulty_from line (n + 1) ps
+  on m h = cond-true _ _ _ (read (is_number (word_at line p)) (value (word_at line p)) m (refusal.Number n) h).0
 
-module _ (line : List ℕ) (places : List Place) (i : ℕ) (d : Place) (numbers : List ℕ) (inside : i < length places) (old : Sofar line places i numbers) where
-  step : faulty_from line (i + 1) (drop i places) ≡ cond (is_number (word_at line (get_or places i d))) (faulty_from line (i + 1 + 1) (drop (i + 1) places)) (Some (i + 1))
-  step = at_drop_more (faulty_from line (i + 1)) places i d inside
+  off : (e : LineRefusal) → Err e ≡ number_or_fault line n p → faulty_from line n (p ∷ ps) ≡ Some n
+  off e h = cond-false _ _ _ (refused (is_number (word_at line p)) (value (word_at line p)) (refusal.Number n) e h).0
 
-  -- a word that is no number is the first
-  pub fault : None ≡ number_of (word_at line (get_or places i d)) → faulty_from line 1 places ≡ Some (i + 1)
-  fault h = sym old.faults ∙ (step ∙ cond-false _ (faulty_from line (i + 1 + 1) (drop (i + 1) places)) _ (number_is_none (word_at line (get_or places i d)) h))
+worth : (line : List ℕ) (n : ℕ) (p : Place) (m : ℕ) → Ok m ≡ number_or_fault line n p → m ≡ value (word_at line p)
+worth line n p m h = sym (read (is_number (word_at line p)) (value (word_at line p)) m (refusal.Number n) h).1
 
-  module _ (n : ℕ) (h : Some n ≡ number_of (word_at line (get_or places i d))) where
-    here : get_or (numbers_of line places) i 0 ≡ n
-    here = get_or-map (λ p. value (word_at line p)) places i d 0 inside ∙ (number_is (word_at line (get_or places i d)) n h).1
+named : (line : List ℕ) (n : ℕ) (p : Place) (e : LineRefusal) → Err e ≡ number_or_fault line n p → e ≡ refusal.Number n
+named line n p e h = (refused (is_number (word_at line p)) (value (word_at line p)) (refusal.Number n) e h).1
 
-    faults_more : faulty_from line (i + 1 + 1) (drop (i + 1) places) ≡ faulty_from line 1 places
-    faults_more = sym (cond-true _ _ _ (number_is (word_at line (get_or places i d)) n h).0) ∙ (sym step ∙ old.faults)
+module _ (line : List ℕ) (w : FirstWord) (ps : List Place) (counted : length ps ≡ numbers_after w) where
+  at_fault : (n : ℕ) (e : LineRefusal) → e ≡ refusal.Number n → faulty_from line 1 ps ≡ Some n → Err e ≡ command_at line w ps
+  at_fault n e i f = ap Err i ∙ (sym (ap (command_with line w ps) f) ∙ sym (cond-true _ _ _ (eq-eqb _ _ counted)))
 
-    -- a number is put in its place
-    pub one_more : i < 4 → Sofar line places (i + 1) (set numbers i n)
-    one_more l = record {
-      faults = faults_more;
-      held = λ k a b. ⊎_elim (λ e. subst (λ j. get_or (set numbers i n) j 0 ≡ get_or (numbers_of line places) j 0) (sym e) (get_or-set_same numbers i n 0 (omega (arith, old.four)) ∙ sym here)) (λ e. get_or-set_other numbers i k n 0 e ∙ old.held k a (omega arith)) (cases_eq k i);
-      rest = λ k a. get_or-set_other numbers i k n 0 (λ e. omega arith) ∙ old.rest k (omega arith);
-      four = length-set numbers i n ∙ old.four;
-    }
+  sound : (c : Command) → c ≡ command_of w (numbers_of line ps) → faulty_from line 1 ps ≡ None → Ok c ≡ command_at line w ps
+  sound c i f = ap Ok i ∙ (sym (ap (command_with line w ps) f) ∙ sym (cond-true _ _ _ (eq-eqb _ _ counted)))
 
-    -- a fifth number or a later one has no place
-    pub one_past : 4 ≤ i → Sofar line places (i + 1) numbers
-    one_past l = record {
-      faults = faults_more;
-      held = λ k a b. old.held k a (omega arith);
-      rest = λ k a. old.rest k (omega arith);
-      four = old.four;
-    }
+module _ (line : List ℕ) (p q : Place) (a : ℕ) (h : Ok a ≡ number_or_fault line 1 p) where
+  pub look_second : (e : LineRefusal) → Err e ≡ number_or_fault line 2 q → Err e ≡ command_at line word.Look (p ∷ q ∷ [])
+  look_second e i = at_fault line word.Look (p ∷ q ∷ []) refl 2 e (named line 2 q e i) (on line 1 p (q ∷ []) a h ∙ off line 2 q [] e i)
 
--- with all words read, none is at fault and the first four numbers are held
-pub all_read : (line : List ℕ) (places : List Place) (i : ℕ) (numbers : List ℕ) → length places ≤ i → Sofar line places i numbers → (faulty_from line 1 places ≡ None) × ((k : ℕ) → k < 4 → get_or numbers k 0 ≡ get_or (numbers_of line places) k 0)
-all_read line places i numbers l h = (
-  sym h.faults ∙ at_drop_all (faulty_from line (i + 1)) places i l,
-  λ k a. ⊎_elim (λ b. h.held k a b) (λ b. h.rest k b ∙ sym (get_or_past (numbers_of line places) k 0 (omega (arith, length-map places (λ p. value (word_at line p)))))) (cases_lt k i),
-)
+  pub look_read : (b : ℕ) → Ok b ≡ number_or_fault line 2 q → Ok (command.Look a b) ≡ command_at line word.Look (p ∷ q ∷ [])
+  look_read b i = sound line word.Look (p ∷ q ∷ []) refl (command.Look a b) (λ j. command.Look (worth line 1 p a h j) (worth line 2 q b i j)) (on line 1 p (q ∷ []) a h ∙ on line 2 q [] b i)
+
+  module _ (r s : Place) where
+    pub redraw_second : (e : LineRefusal) → Err e ≡ number_or_fault line 2 q → Err e ≡ command_at line word.Redraw (p ∷ q ∷ r ∷ s ∷ [])
+    redraw_second e i = at_fault line word.Redraw (p ∷ q ∷ r ∷ s ∷ []) refl 2 e (named line 2 q e i) (on line 1 p (q ∷ r ∷ s ∷ []) a h ∙ off line 2 q (r ∷ s ∷ []) e i)
+
+    module _ (b : ℕ) (i : Ok b ≡ number_or_fault line 2 q) where
+      pub redraw_third : (e : LineRefusal) → Err e ≡ number_or_fault line 3 r → Err e ≡ command_at line word.Redraw (p ∷ q ∷ r ∷ s ∷ [])
+      redraw_third e j = at_fault line word.Redraw (p ∷ q ∷ r ∷ s ∷ []) refl 3 e (named line 3 r e j) (on line 1 p (q ∷ r ∷ s ∷ []) a h ∙ (on line 2 q (r ∷ s ∷ []) b i ∙ off line 3 r (s ∷ []) e j))
+
+      module _ (c : ℕ) (j : Ok c ≡ number_or_fault line 3 r) where
+        three : faulty_from line 1 (p ∷ q ∷ r ∷ s ∷ []) ≡ faulty_from line 4 (s ∷ [])
+        three = on line 1 p (q ∷ r ∷ s ∷ []) a h ∙ (on line 2 q (r ∷ s ∷ []) b i ∙ on line 3 r (s ∷ []) c j)
+
+        pub redraw_fourth : (e : LineRefusal) → Err e ≡ number_or_fault line 4 s → Err e ≡ command_at line word.Redraw (p ∷ q ∷ r ∷ s ∷ [])
+        redraw_fourth e k = at_fault line word.Redraw (p ∷ q ∷ r ∷ s ∷ []) refl 4 e (named line 4 s e k) (three ∙ off line 4 s [] e k)
+
+        pub redraw_read : (d : ℕ) → Ok d ≡ number_or_fault line 4 s → Ok (command.Redraw a b c d) ≡ command_at line word.Redraw (p ∷ q ∷ r ∷ s ∷ [])
+        redraw_read d k =
+            sound line word.Redraw (p ∷ q ∷ r ∷ s ∷ []) refl (command.Redraw a b c d)
+            (λ x. command.Redraw (worth line 1 p a h x) (worth line 2 q b i x) (worth line 3 r c j x) (worth line 4 s d k x))
+            (three ∙ on line 4 s [] d k)
+
+-- what a pattern names where the list has no place there
+abbrev pub nowhere : Place
+nowhere = record { start = 0; end = 0 }
+
+two : (ps : List Place) → length ps ≡ 2 → get_or ps 0 nowhere ∷ get_or ps 1 nowhere ∷ [] ≡ ps
+two (p ∷ q ∷ []) l = refl
+two [] l = absurd (omega arith)
+two (p ∷ []) l = absurd (omega arith)
+two (p ∷ q ∷ r ∷ ps) l = absurd (omega arith)
+
+four : (ps : List Place) → length ps ≡ 4 → get_or ps 0 nowhere ∷ get_or ps 1 nowhere ∷ get_or ps 2 nowhere ∷ get_or ps 3 nowhere ∷ [] ≡ ps
+four (p ∷ q ∷ r ∷ s ∷ []) l = refl
+four [] l = absurd (omega arith)
+four (p ∷ []) l = absurd (omega arith)
+four (p ∷ q ∷ []) l = absurd (omega arith)
+four (p ∷ q ∷ r ∷ []) l = absurd (omega arith)
+four (p ∷ q ∷ r ∷ s ∷ t ∷ ps) l = absurd (omega arith)
+
+-- the same of the words that a pattern of two, or of four, names
+pub at_two : (line : List ℕ) (v w : FirstWord) (ps : List Place) → w ≡ v → length ps ≡ 2 → command_at line v (get_or ps 0 nowhere ∷ get_or ps 1 nowhere ∷ []) ≡ command_at line w ps
+at_two line v w ps e l = λ i. command_at line (sym e i) (two ps l i)
+
+pub at_four : (line : List ℕ) (v w : FirstWord) (ps : List Place) → w ≡ v → length ps ≡ 4 → command_at line v (get_or ps 0 nowhere ∷ get_or ps 1 nowhere ∷ get_or ps 2 nowhere ∷ get_or ps 3 nowhere ∷ []) ≡ command_at line w ps
+at_four line v w ps e l = λ i. command_at line (sym e i) (four ps l i)

@@ -1,7 +1,7 @@
 -- What a line asks for. A line is checked in this order: its first word is known, as many words follow as that word takes, each of them
 -- is a number, and it comes in turn, which is that an opening comes before one was accepted and any other command after. The first check
 -- that fails refuses the line; where none does, the line is a command.
-use Rattle.std.specs.Prelude.{◌≡◌, ℕ, ◌+◌, ◌<◌, Bool, cond, not, List, [], ◌∷◌, map, length, Some, None, Ok, Err, Option, Result, ◌==◌, slice_index}
+use Rattle.std.specs.Prelude.{ℕ, ◌+◌, Bool, cond, not, List, [], ◌∷◌, map, length, Some, None, Ok, Err, Option, Result, ◌==◌, slice_index}
 use Rattle.orders.specs.declared.commands.Command.{Command}
 use Rattle.orders.specs.declared.commands.Command.TheVariants as command
 use Rattle.orders.specs.declared.refusals.LineRefusal.{LineRefusal}
@@ -60,7 +60,15 @@ abbrev pub read_as : List ℕ → List Place → Bool → Result Command LineRef
 read_as line [] opened = Err refusal.FirstWord
 read_as line (first ∷ rest) opened = read_rest line rest opened (named_by (word_at line first))
 
--- what is read of the words as numbers: all are numbers and the first four are held, or the first that is none is named, counted from 1
-abbrev pub NumbersRead : List ℕ → List Place → Result (List ℕ) LineRefusal → Type 0
-NumbersRead line places (Ok ns) = (faulty_from line 1 places ≡ None) × ((k : ℕ) → k < 4 → slice_index ns k ≡ slice_index (numbers_of line places) k)
-NumbersRead line places (Err e) = (w : ℕ) × (faulty_from line 1 places ≡ Some w) × (e ≡ refusal.Number w)
+-- the number that is the line's word n, at the place, or the refusal of a word that is none
+abbrev pub number_or_fault : List ℕ → ℕ → Place → Result ℕ LineRefusal
+number_or_fault line n p = cond (is_number (word_at line p)) (Ok (value (word_at line p))) (Err (refusal.Number n))
+
+-- what the words that follow a first word make with it, whatever its turn: a command, or the refusal of their count or of the first of
+-- them that is no number
+abbrev pub command_with : List ℕ → FirstWord → List Place → Option ℕ → Result Command LineRefusal
+command_with line w rest (Some n) = Err (refusal.Number n)
+command_with line w rest None = Ok (command_of w (numbers_of line rest))
+
+abbrev pub command_at : List ℕ → FirstWord → List Place → Result Command LineRefusal
+command_at line w rest = cond (length rest == numbers_after w) (command_with line w rest (faulty_from line 1 rest)) (Err refusal.WordCount)

@@ -2,21 +2,21 @@
 ghost use Rattle.std.specs.Prelude.{◌≡◌};
 ghost use Rattle.orders.specs.Refusals.{refusal_number, faulty_word};
 
-// What a line is refused for.
-#[derive(Clone, Copy)]
+/// What a line is refused for.
+#[derive(Clone, Copy, Debug, PartialEq, Eq)]
 pub enum LineRefusal {
-    // its first word is unknown
+    /// its first word is unknown
     FirstWord,
-    // it has not as many words as its first word asks for
+    /// it has not as many words as its first word asks for
     WordCount,
-    // the word at this place of the line, counted from 0, is no number
+    /// the word at this place of the line, counted from 0, is no number
     Number(usize),
-    // no opening was accepted yet, or it is an opening and one was
+    /// no opening was accepted yet, or it is an opening and one was
     Opening,
 }
 
 impl LineRefusal {
-    // The refusal's number.
+    /// The refusal's number.
     pub fn number(self) -> u32
         ensures { result ≡ refusal_number self }
     {
@@ -28,7 +28,7 @@ impl LineRefusal {
         }
     }
 
-    // The first faulty word, counted from 0.
+    /// The first faulty word, counted from 0.
     pub fn word(self) -> usize
         ensures { result ≡ faulty_word self }
     {

@@ -6,7 +6,7 @@ use std::alloc::{AllocError, Global};
 use std::test::Fail;
 use words::split::words;
 
-// What a line is read as.
+/// What a line is read as.
 fn reading(
     heap: Global,
     line: &str,
@@ -19,36 +19,23 @@ fn reading(
 #[test]
 fn commands_are_read(rt: HostRuntime) -> Result<(), Fail> {
     let heap = rt.alloc();
-    assert!(rt;
-        matches!(
-            reading(heap, "chain 8", false)?,
-            Ok(Command::Open(Kind::Chain, 8))
-        )
-    );
-    assert!(rt;
-        matches!(
-            reading(heap, " redraw 0  3 0000000040 5 ", true)?,
-            Ok(Command::Redraw {
-                from: 0,
-                to: 3,
-                minutes: 40,
-                grade: 5
-            })
-        )
-    );
-    assert!(rt;
-        matches!(
-            reading(heap, "look 4294967295 0", true)?,
-            Ok(Command::Look {
-                from: 4_294_967_295,
-                to: 0
-            })
-        )
-    );
+    assert!(rt; reading(heap, "chain 8", false)? == Ok(Command::Open(Kind::Chain, 8)));
+    let redraw = Command::Redraw {
+        from: 0,
+        to: 3,
+        minutes: 40,
+        grade: 5,
+    };
+    assert!(rt; reading(heap, " redraw 0  3 0000000040 5 ", true)? == Ok(redraw));
+    let look = Command::Look {
+        from: 4_294_967_295,
+        to: 0,
+    };
+    assert!(rt; reading(heap, "look 4294967295 0", true)? == Ok(look));
     Ok(())
 }
 
-// A line that is refused: whether an opening was accepted before it, its faulty word and the refusal's number.
+/// A line that is refused: whether an opening was accepted before it, its faulty word and the refusal's number.
 #[derive(Clone, Copy)]
 struct Case {
     line: &'static str,

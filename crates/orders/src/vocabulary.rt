@@ -1,18 +1,19 @@
 // The words that a line may begin with: how each is spelled, and how many numbers follow it.
 ghost use Rattle.std.specs.Prelude.{◌≡◌, Some};
-ghost use Rattle.orders.specs.Vocabulary.{spelling, numbers_after, begins_book, spelled_so, named_by};
-ghost use Rattle.std.specs.Str.{bytes_eq};
+ghost use Rattle.orders.specs.Vocabulary.{spelling, numbers_after, begins_book, named_by};
 
-// What a book measures.
-#[derive(Clone, Copy)]
+use std::fmt;
+
+/// What a book measures.
+#[derive(Clone, Copy, Debug, PartialEq, Eq)]
 pub enum Kind {
     Minutes,
     Chain,
     Weakest,
 }
 
-// The first word of a line.
-#[derive(Clone, Copy)]
+/// The first word of a line.
+#[derive(Clone, Copy, Debug, PartialEq, Eq)]
 pub enum FirstWord {
     Open(Kind),
     Redraw,
@@ -22,7 +23,7 @@ pub enum FirstWord {
     List,
 }
 
-// All first words.
+/// All first words.
 const ALL: [FirstWord; 8] = [
     FirstWord::Open(Kind::Minutes),
     FirstWord::Open(Kind::Chain),
@@ -35,7 +36,7 @@ const ALL: [FirstWord; 8] = [
 ];
 
 impl FirstWord {
-    // The word as it is read and written, by which it is known again.
+    /// The word as it is read and written, by which it is known again.
     pub fn text(self) -> &'static str
         ensures spelled { result.now ≡ spelling self }
         ensures known { named_by (spelling self) ≡ Some self }
@@ -52,7 +53,7 @@ impl FirstWord {
         }
     }
 
-    // How many numbers follow the word.
+    /// How many numbers follow the word.
     pub fn numbers(self) -> usize
         ensures { result ≡ numbers_after self }
     {
@@ -64,36 +65,28 @@ impl FirstWord {
         }
     }
 
-    // Whether the word opens a book.
+    /// Whether the word opens a book.
     pub fn opens(self) -> bool
         ensures { result ≡ begins_book self }
     {
         matches!(self, FirstWord::Open(_))
     }
 
-    // The first word that is spelled so, if there is one.
+    /// The first word that is spelled so, if there is one.
     pub fn named(name: &[u8]) -> Option<FirstWord>
         ensures { result ≡ named_by name.now }
     {
-        spelled(name, &ALL)
+        ALL.iter()
+            .copied()
+            .find(|word| name == word.text().as_bytes())
     }
 }
 
-// The first of the words that is spelled so, if there is one.
-fn spelled(name: &[u8], words: &[FirstWord]) -> Option<FirstWord>
-    ensures { result ≡ spelled_so name.now words.now }
-{
-    for word in words {
-        if same(name, word.text().as_bytes()) {
-            return Some(*word);
-        }
-    }
-    None
-}
+/// The word as it is read and written.
+impl fmt::Display for FirstWord {
+    ghost output = { λ w. Some (spelling w) };
 
-// Whether both hold the same bytes.
-fn same(a: &[u8], b: &[u8]) -> bool
-    ensures { result ≡ bytes_eq a.now b.now }
-{
-    a == b
+    fn fmt<W: fmt::Write>(&self, f: &mut fmt::Formatter<W>) -> fmt::Result {
+        f.write_str(self.text())
+    }
 }

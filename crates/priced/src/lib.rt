@@ -1,9 +1,10 @@
 // What every priced book promises, whatever its measure: each call is a step of the rules.
 #![tactic(auto)]
 
-ghost use Rattle.std.specs.Prelude.{◌≡◌, Ok, Err};
+ghost use Rattle.std.specs.Prelude.{◌≡◌, Err, IfOk, OnOk};
+ghost use Rattle.std.specs.Result.{result_map_both};
 ghost use Rattle.theory.specs.Chains.{BestOver};
-ghost use Rattle.theory.specs.Books.{View, Stepped, Guarantee, NothingFits, enter as enter_call, clear as clear_call, root as root_call, look as look_call, list as list_call, cleared, refused, entries_are, enter_answer, built_answer, look_answer};
+ghost use Rattle.theory.specs.Books.{View, Stepped, Guarantee, NothingFits, enter as enter_call, clear as clear_call, root as root_call, look as look_call, list as list_call, cleared, enter_answer, built_answer, look_answer, list_answer};
 
 use measures::Measure;
 use theory::{Built, Entry, Refusal};
@@ -30,10 +31,10 @@ pub trait PricedBook {
     /// The best measure from one sheet to another, over all chains of the redraws held.
     fn look(&self, from: u32, to: u32) -> Result<Self::Value, Refusal>
         ensures called { Stepped Self.Value.Measure.meaning (view self.now) (look_call from to) (look_answer result) (view self.now) }
-        ensures best { elim result [ Ok a ↦ BestOver Self.Value.Measure.meaning (view self.now).redraws from to a | Err _ ↦ Unit {0} ] };
+        ensures best { IfOk result (λ best. BestOver Self.Value.Measure.meaning (view self.now).redraws from to best) };
 
     /// The entries of the finished table, with all that a finished book guarantees.
     fn list(&self) -> Result<&[Entry<Self::Value>], Refusal>
-        ensures called { Stepped Self.Value.Measure.meaning (view self.now) list_call (elim result [ Ok es ↦ entries_are es.now | Err e ↦ refused e ]) (view self.now) }
-        ensures guarantee { elim result [ Ok _ ↦ Guarantee Self.Value.Measure.meaning (view self.now) | Err _ ↦ Unit {0} ] };
+        ensures called { Stepped Self.Value.Measure.meaning (view self.now) list_call (list_answer (result_map_both (λ entries. entries.now) (λ e. e) result)) (view self.now) }
+        ensures guarantee { OnOk result (Guarantee Self.Value.Measure.meaning (view self.now)) };
 }

@@ -1,25 +1,17 @@
 // Pruning: the generated table, laid in the spare strip, goes into the table strip without the entries that senior sheets answer as well.
 #![tactic(auto)]
 
-ghost use Rattle.std.specs.Prelude.{◌≡◌, ℕ, ◌<◌, ◌≤◌, List, length};
+ghost use Rattle.std.specs.Prelude.{◌≡◌, ℕ, ◌+◌, ◌<◌, ◌≤◌, List, length, slice_set};
 ghost use Rattle.theory.specs.Measures.{Lawful, same as same_values};
 ghost use Rattle.theory.specs.Tables.{Table};
-ghost use Rattle.theory.specs.Order.{Sorted, blank_entry};
-ghost use Rattle.strips.specs.Strips.{wiped};
+ghost use Rattle.theory.specs.Order.{Sorted};
 ghost use Rattle.pruning.specs.Leaving.{Prunable, PrunedInto};
-ghost use Rattle.pruning.specs.Pruning.{covered_by, same_entry, stands_at, left_after, table_after, answer_of};
+ghost use Rattle.pruning.specs.Pruning.{covered_by, same_entry, stands_at};
 
 use measures::Measure;
-use strips::{at, put, wipe};
-use tables::best_over_seniors;
+use strips::{Strip, at, wipe};
+use tables::{best_over_seniors, blank_entry};
 use theory::Entry;
-
-/// What pruning leaves: how many entries, and whether they are what stood in the table before.
-#[derive(Clone, Copy)]
-pub struct Pruned {
-    pub entries: usize,
-    pub same: bool,
-}
 
 /// Whether a sheet senior to both ends of the entry has two laid entries whose join is not worse.
 fn covered<M: Measure>(laid: &[Entry<M>], entry: Entry<M>) -> bool
@@ -30,6 +22,7 @@ fn covered<M: Measure>(laid: &[Entry<M>], entry: Entry<M>) -> bool
 }
 
 /// Whether neither of two values is better.
+// Of a measure only what the trait says is known, so values are compared by its `better`, and not by a `PartialEq` of their type.
 fn ties<M: Measure>(one: M, other: M) -> bool
     ensures { result ≡ same_values M.Measure.meaning one other }
 {
@@ -43,68 +36,41 @@ fn equals<M: Measure>(one: Entry<M>, other: Entry<M>) -> bool
     one.from == other.from && one.to == other.to && ties(one.value, other.value)
 }
 
-/// Whether the entry stands at the place of the table, among the first `count`.
-fn stands<M: Measure>(table: &[Entry<M>], count: usize, place: usize, entry: Entry<M>) -> bool
-    ensures { result ≡ stands_at M.Measure.meaning table.now count place entry }
+/// Whether the entry stands at the place after those in use, among the first `before`.
+fn stands<M: Measure>(table: &Strip<Entry<M>>, before: usize, entry: Entry<M>) -> bool
+    ensures { result ≡ stands_at M.Measure.meaning table.now.cells.now before table.now.count entry }
 {
-    place < count && equals(entry, at(table, place, entry))
+    table.count < before && equals(entry, at(table.cells, table.count, entry))
 }
 
-/// Writes the entry after those that are left so far, unless it goes or there is no such place, and answers what is left then.
-/// `stood` says whether the entry stood at that place before.
-fn keep<M: Measure>(
-    table: &mut [Entry<M>],
-    left: Pruned,
-    entry: Entry<M>,
-    goes: bool,
-    stood: bool,
-) -> Pruned
-    ensures places { length table.new ≡ length table.old }
-    ensures left { left.entries < length table.old → result ≡ left_after goes stood left }
-    ensures table { left.entries < length table.old → table.new ≡ table_after goes entry left table.old }
+/// Puts the entry after those in use, if there is a place, and answers whether it stood there before, among the first `before`.
+fn keep<M: Measure>(table: &mut Strip<Entry<M>>, before: usize, entry: Entry<M>) -> bool
+    ensures answer { table.old.count < length table.old.cells.now → result ≡ stands_at M.Measure.meaning table.old.cells.now before table.old.count entry }
+    ensures cells { table.new.cells.now ≡ slice_set table.old.cells.now table.old.count entry }
+    ensures count { table.old.count < length table.old.cells.now → table.new.count ≡ table.old.count + 1 }
+    ensures places { length table.new.cells.now ≡ length table.old.cells.now }
+    ensures same { table.new.cells.ghost_name ≡ table.old.cells.ghost_name }
 {
-    if goes || left.entries >= table.len() {
-        return left;
-    }
-    put(table, left.entries, entry);
-    Pruned {
-        entries: left.entries + 1,
-        same: left.same && stood,
-    }
+    let stood = stands(table, before, entry);
+    table.push(entry).is_ok() && stood
 }
 
-/// Makes the table blank after the entries that are left, and compares how many there are with how many stood there before.
-fn finish<M: Measure>(table: &mut [Entry<M>], count: usize, left: Pruned) -> Pruned
-    ensures places { length table.new ≡ length table.old }
-    ensures answer { result ≡ answer_of count left }
-    ensures table { table.new ≡ wiped table.old left.entries (blank_entry M.Measure.meaning) }
+/// Puts the entries of the laid table that no sheet senior to both ends answers as well into the table, in order, in place of the present entries,
+/// and makes the rest of the table blank. Answers whether they are the present entries.
+pub fn prune<M: Measure>(laid: &[Entry<M>], table: &mut Strip<Entry<M>>) -> bool
+    ensures places { length table.new.cells.now ≡ length table.old.cells.now }
+    ensures same { table.new.cells.ghost_name ≡ table.old.cells.ghost_name }
+    ensures pruned { Lawful M.Measure.meaning → (n : ℕ) (g : Table M) (es : List (Entry M)) → Prunable M.Measure.meaning n g laid.now es table.old → PrunedInto M.Measure.meaning n g es (length table.old.cells.now) result table.new }
 {
-    let blank = Entry {
-        from: 0,
-        to: 0,
-        value: M::none(),
-    };
-    wipe(table, left.entries, blank);
-    Pruned {
-        entries: left.entries,
-        same: left.same && left.entries == count,
-    }
-}
-
-/// Writes the entries of the laid table that no sheet senior to both ends answers as well into the table, in order,
-/// and makes the rest of the table blank. The first `count` entries stood there before.
-pub fn prune<M: Measure>(laid: &[Entry<M>], table: &mut [Entry<M>], count: usize) -> Pruned
-    ensures places { length table.new ≡ length table.old }
-    ensures pruned { Lawful M.Measure.meaning → (n : ℕ) (g : Table M) (es : List (Entry M)) → Prunable M.Measure.meaning n g laid.now es (length table.old) count table.old → PrunedInto M.Measure.meaning n g es (length table.old) result table.new }
-{
-    let mut left = Pruned {
-        entries: 0,
-        same: true,
-    };
+    let before = table.count;
+    table.count = 0;
+    let mut same = true;
     for next in laid {
-        let stood = stands(table, count, left.entries, *next);
         let goes = covered(laid, *next);
-        left = keep(table, left, *next, goes, stood);
+        if !goes {
+            same &= keep(table, before, *next);
+        }
     }
-    finish(table, count, left)
+    wipe(table.cells, table.count, blank_entry());
+    same && table.count == before
 }

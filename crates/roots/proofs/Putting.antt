@@ -1,6 +1,6 @@
 -- Putting both runs into the table: after the two merges it is the table after the root.
-use Rattle.std.proofs.Common.{◌≡◌, ℕ, suc, ◌+◌, ◌-◌, ◌<◌, ◌≤◌, min, true, false, ◌⊎◌, List, ◌++◌, length, get_or, take, drop, replicate, Some, sym, refl, ap, ◌∙◌, subst, ap₂, inl, inr, ⊎_elim, arith}
-use Rattle.std.proofs.lemmas.List.{length-append, length-replicate, take_all, take_at, drop_at, take-append-drop, drop-replicate, drop-append-le, drop-drop}
+use Rattle.std.proofs.Common.{◌≡◌, ℕ, suc, ◌+◌, ◌-◌, ◌<◌, ◌≤◌, min, true, false, ◌⊎◌, List, ◌++◌, length, get_or, take, drop, replicate, Some, None, sym, refl, ap, ◌∙◌, subst, ap₂, inl, inr, ⊎_elim, arith}
+use Rattle.std.proofs.lemmas.List.{length-append, length-replicate, take_all, take_at, drop_at, take-append-drop, drop-replicate, drop-drop}
 use Rattle.theory.specs.declared.Redraw.{Redraw}
 use Rattle.theory.specs.declared.Entry.{Entry}
 use Rattle.theory.specs.declared.Way.TheVariants.{Out, In}
@@ -18,6 +18,7 @@ use Rattle.theory.proofs.SortedTables as sorted
 use Rattle.theory.proofs.Growing as growing
 use Rattle.theory.proofs.Members.{places_rising}
 use Rattle.merging.specs.Merging.{Apart, Mergeable, Merged}
+use Rattle.strips.specs.declared.Strip.{Strip}
 use Rattle.roots.specs.Turns.{Ready, Buildable, BuiltRoot, Both}
 
 module _ {V : Type 0} (m : Meaning V) (L : Lawful m) (n : ℕ) (small : n ≤ 65536) where
@@ -51,9 +52,6 @@ module _ {V : Type 0} (m : Meaning V) (L : Lawful m) (n : ℕ) (small : n ≤ 65
   merged_holds xs ys zs sx sy M = sorted.merged_held m L n zs xs ys (merged_sorted xs ys zs sx sy M) sx sy M.from_either M.has_first M.has_second
 
   module _ (rs : List Redraw) (reg : Register n rs) (r : ℕ) (lr : r < n) (outs ins : List (Entry V)) (ro : Run m n rs r Out outs) (ri : Run m n rs r In ins) where
-    T : List (Entry V)
-    T = listed m n (rooted m r (best m n rs))
-
     cut_values : (u v : ℕ) → m.valid (rooted m r (best m n rs) u v) ≡ true
     cut_values = roots.rooted_value m L r (best m n rs) (bests.best_value m L n rs reg)
 
@@ -126,103 +124,86 @@ padded_drop b places k xs l =
     ∙ ap (drop (k - length xs)) (drop_at xs (replicate (places - length xs) b) (length xs) refl)
     ∙ drop-replicate (k - length xs) (places - length xs) b ∙ ap (λ j. replicate j b) f
 
-module _ {V : Type 0} (m : Meaning V) (L : Lawful m) (n : ℕ) (rs : List Redraw) (r places count : ℕ) (table spare : List (Entry V)) (work : List V) (marks : List ℕ) (B : Buildable m n rs r places count table spare work marks) where
-  pub used_is : take count table ≡ listed m n (rooted m r (best m n rs))
-  used_is = ap₂ (λ k xs. take k xs) B.count_is B.table_is ∙ padded_take (blank_entry m) places (listed m n (rooted m r (best m n rs)))
+module _ {V : Type 0} (m : Meaning V) (L : Lawful m) (n : ℕ) (rs : List Redraw) (r : ℕ) (table : Strip (Entry V)) (spare : List (Entry V)) (work : List V) (marks : List ℕ) (B : Buildable m n rs r (length table.cells.now) table.count table.cells.now spare work marks) where
+  pub used_is : take table.count table.cells.now ≡ listed m n (rooted m r (best m n rs))
+  used_is = ap₂ (λ k xs. take k xs) B.count_is B.table_is ∙ padded_take (blank_entry m) (length table.cells.now) (listed m n (rooted m r (best m n rs)))
 
-  pub ready : (es : List (Entry V)) → es ≡ take (count - 0) (drop 0 table) → Ready m n rs es r
-  ready es e = record { small = B.small; register = B.register; root_below = B.root_below; table = e ∙ ap (λ k. take k table) (let z : count - 0 ≡ count = omega arith in z) ∙ used_is }
+  pub ready : (es : List (Entry V)) → es ≡ take table.count table.cells.now → Ready m n rs es r
+  ready es e = record { small = B.small; register = B.register; root_below = B.root_below; table = e ∙ used_is }
 
-  pub spare_long : length spare ≡ places
-  spare_long = ap length B.spare_blank ∙ length-replicate places (blank_entry m)
-
-  -- the whole spare strip blanked
-  pub spare_wiped : (xs : List (Entry V)) (b : Entry V) → length xs ≡ length spare → b ≡ blank_entry m → (ys : List (Entry V)) → ys ≡ take 0 xs ++ replicate (length xs - 0) b → ys ≡ spare
-  spare_wiped xs b long eb ys e =
-      let k : length xs - 0 ≡ places = omega (arith, long, spare_long) in
-      e ∙ ap₂ (λ j x. replicate j x) k eb ∙ sym B.spare_blank
+  spare_long : length spare ≡ length table.cells.now
+  spare_long = ap length B.spare_blank ∙ length-replicate (length table.cells.now) (blank_entry m)
 
   module _ (outs ins : List (Entry V)) (ro : Run m n rs r Out outs) (ri : Run m n rs r In ins) where
-    long_after : length (listed m n (rooted m (suc r) (best m n rs))) ≡ count + length outs + length ins
+    long_after : length (listed m n (rooted m (suc r) (best m n rs))) ≡ table.count + length outs + length ins
     long_after =
         let g = growing.grown_length m L n B.small rs B.register r B.root_below outs ins ro ri in
         let c = B.count_is in
         omega (arith, g, c)
 
-    -- the runs do not fit the spare strip, or not the table
-    pub too_long : length spare < length outs + length ins → (places < length (listed m n (rooted m (suc r) (best m n rs))))
-    too_long l = omega (arith, l, spare_long, long_after)
+    -- the runs do not fit the spare strip
+    pub too_long : length spare < length outs + length ins → BuiltRoot m n rs r (length table.cells.now) table.cells.now None table.cells.now
+    too_long l = (omega (arith, l, spare_long, long_after), refl)
 
-    pub too_many : (end : ℕ) → end ≡ length outs + length ins → places - count < end → (places < length (listed m n (rooted m (suc r) (best m n rs))))
-    too_many end e l = let w = B.count_within in omega (arith, e, l, w, long_after)
+    module _ (middle : ℕ) (filled : Strip (Entry V)) (both : Both spare outs ins (Some (middle, filled.count)) filled.cells.now) (found : List (Entry V)) (is : found ≡ take filled.count filled.cells.now) where
+      found_is : found ≡ outs ++ ins
+      found_is = is ∙ both.3
 
-    module _ (middle end : ℕ) (spare' : List (Entry V)) (both : Both spare outs ins (Some (middle, end)) spare') where
-      pub middle_within : (middle ≤ end) × (end ≤ length spare')
-      middle_within =
-          let a : middle ≡ length outs = both.0 in
-          let b : end ≡ length outs + length ins = both.1 in
-          let t : length (take end spare') ≡ length (outs ++ ins) = ap length both.3 in
-          let l = Rattle.std.proofs.lemmas.List.length-take end spare' in
-          let j = length-append outs ins in
-          (omega arith, omega (arith, a, b, t, l, j))
+      found_long : length found ≡ length outs + length ins
+      found_long = ap length found_is ∙ length-append outs ins
 
-      pub first_run : (run : List (Entry V)) → run ≡ take (middle - 0) (drop 0 spare') → run ≡ outs
+      -- or not the table
+      pub too_many : length table.cells.now - table.count < length found → BuiltRoot m n rs r (length table.cells.now) table.cells.now None table.cells.now
+      too_many l = let w = B.count_within in (omega (arith, l, w, found_long, long_after), refl)
+
+      pub middle_within : middle ≤ length found
+      middle_within = let a : middle ≡ length outs = both.0 in omega (arith, found_long)
+
+      first_run : (run : List (Entry V)) → run ≡ take (middle - 0) (drop 0 found) → run ≡ outs
       first_run run e =
-          let a : middle ≡ length outs = both.0 in
-          let z : middle - 0 ≡ middle = omega arith in
-          let w = middle_within.0 in
-          e ∙ ap (λ k. take k spare') z ∙ sym (Rattle.std.proofs.lemmas.List.take-take middle end spare' w) ∙ ap (take middle) both.3 ∙ take_at outs ins middle (sym a)
+          let a : middle - 0 ≡ length outs = omega (arith, both.0) in
+          e ∙ ap (take (middle - 0)) found_is ∙ take_at outs ins (middle - 0) (sym a)
 
-      pub second_run : (run : List (Entry V)) → run ≡ take (end - middle) (drop middle spare') → run ≡ ins
+      second_run : (run : List (Entry V)) → run ≡ take (length found - middle) (drop middle found) → run ≡ ins
       second_run run e =
           let a : middle ≡ length outs = both.0 in
-          let w : middle ≤ end = middle_within.0 in
-          let z : middle + (end - middle) ≡ end = omega arith in
-          e ∙ sym (Rattle.std.proofs.lemmas.List.drop-take middle (end - middle) spare') ∙ ap (λ k. drop middle (take k spare')) z ∙ ap (drop middle) both.3 ∙ drop_at outs ins middle (sym a)
+          e ∙ ap (λ xs. take (length found - middle) (drop middle xs)) found_is ∙ ap (take (length found - middle)) (drop_at outs ins middle (sym a))
+          ∙ take_all (length found - middle) ins (omega (arith, found_long))
 
-      -- the written part of the spare strip blanked
-      pub spare_blanked : (b : Entry V) → b ≡ blank_entry m → (ys : List (Entry V)) → ys ≡ replicate end b ++ drop end spare' → ys ≡ spare
-      spare_blanked b eb ys e =
-          let w : end ≤ length spare = both.2 in
-          let k : end + (places - end) ≡ places = omega (arith, w, spare_long) in
-          e ∙ ap₂ (λ x xs. replicate end x ++ xs) eb (both.4 ∙ ap (drop end) B.spare_blank ∙ drop-replicate end places (blank_entry m))
-          ∙ Rattle.std.proofs.lemmas.List.replicate-append-replicate end (places - end) (blank_entry m) ∙ ap (λ j. replicate j (blank_entry m)) k ∙ sym B.spare_blank
-
-      pub put_in : (one two : List (Entry V)) → one ≡ take (middle - 0) (drop 0 spare') → two ≡ take (end - middle) (drop middle spare') → end ≤ places - count → length table ≡ places
-          → (t₁ t₂ : List (Entry V))
-          → (count + length one ≤ length table → Mergeable (take count table) one → Merged (take count table) one (take (count + length one) t₁))
-          → drop (count + length one) t₁ ≡ drop (count + length one) table → length t₁ ≡ length table
-          → ((count + middle) + length two ≤ length t₁ → Mergeable (take (count + middle) t₁) two → Merged (take (count + middle) t₁) two (take ((count + middle) + length two) t₂))
-          → drop ((count + middle) + length two) t₂ ≡ drop ((count + middle) + length two) t₁
-          → BuiltRoot m n rs r places table (Some (count + end)) t₂
-      put_in one two e₁ e₂ fit long t₁ t₂ h₁ r₁ l₁ h₂ r₂ =
-          let a : middle ≡ length outs = both.0 in
-          let b : end ≡ length outs + length ins = both.1 in
-          let w : count ≤ places = B.count_within in
+      pub put_in : length found ≤ length table.cells.now - table.count → (one two : List (Entry V)) → one ≡ take (middle - 0) (drop 0 found) → two ≡ take (length found - middle) (drop middle found)
+          → (t u : Strip (Entry V)) → length t.cells.now ≡ length table.cells.now
+          → (table.count + length one ≤ length table.cells.now → t.count ≡ table.count + length one)
+          → drop (table.count + length one) t.cells.now ≡ drop (table.count + length one) table.cells.now
+          → (table.count + length one ≤ length table.cells.now → Mergeable (take table.count table.cells.now) one → Merged (take table.count table.cells.now) one (take t.count t.cells.now))
+          → (t.count + length two ≤ length t.cells.now → u.count ≡ t.count + length two)
+          → drop (t.count + length two) u.cells.now ≡ drop (t.count + length two) t.cells.now
+          → (t.count + length two ≤ length t.cells.now → Mergeable (take t.count t.cells.now) two → Merged (take t.count t.cells.now) two (take u.count u.cells.now))
+          → BuiltRoot m n rs r (length table.cells.now) table.cells.now (Some u.count) u.cells.now
+      put_in fit one two e₁ e₂ t u long c₁ r₁ m₁ c₂ r₂ m₂ =
+          let places = length table.cells.now in
+          let w : table.count ≤ length table.cells.now = B.count_within in
           let q₁ : one ≡ outs = first_run one e₁ in
           let q₂ : two ≡ ins = second_run two e₂ in
           let k₁ : length one ≡ length outs = ap length q₁ in
           let k₂ : length two ≡ length ins = ap length q₂ in
-          let small = B.small in
-          let reg = B.register in
-          let lr = B.root_below in
+          let k : length found ≡ length outs + length ins = found_long in
           let T : List (Entry V) = listed m n (rooted m r (best m n rs)) in
-          let M₁ : Merged T outs (take (count + length one) t₁) = subst (λ x. Merged x outs (take (count + length one) t₁)) used_is (subst (λ x. Merged (take count table) x (take (count + length one) t₁)) q₁
-          (h₁ (omega arith) (subst (Mergeable (take count table)) (sym q₁) (subst (λ x. Mergeable x outs) (sym used_is) (first_mergeable m L n small rs reg r lr outs ins ro ri))))) in
-          let s₁ : count + length one ≡ count + middle = omega arith in
-          let N₁ : Merged T outs (take (count + middle) t₁) = subst (λ k. Merged T outs (take k t₁)) s₁ M₁ in
-          let M₂ : Merged (take (count + middle) t₁) ins (take ((count + middle) + length two) t₂) = subst (λ x. Merged (take (count + middle) t₁) x (take ((count + middle) + length two) t₂)) q₂
-          (h₂ (omega arith) (subst (Mergeable (take (count + middle) t₁)) (sym q₂) (second_mergeable m L n small rs reg r lr outs ins ro ri (take (count + middle) t₁) N₁))) in
-          let s₂ : (count + middle) + length two ≡ count + end = omega arith in
-          let is : take (count + end) t₂ ≡ listed m n (rooted m (suc r) (best m n rs)) = ap (λ k. take k t₂) (sym s₂) ∙ after_root m L n small rs reg r lr outs ins ro ri (take (count + middle) t₁) N₁ (take ((count + middle) + length two) t₂) M₂ in
-          let size : count + end ≡ length (listed m n (rooted m (suc r) (best m n rs))) = omega (arith, b, long_after) in
-          let ends : (count + middle) + (end - middle) ≡ count + end = omega arith in
-          let c = B.count_is in
-          let rest : drop (count + end) t₂ ≡ replicate (places - (count + end)) (blank_entry m)
-          = ap (λ k. drop k t₂) (sym s₂) ∙ r₂ ∙ ap (λ k. drop k t₁) (s₂ ∙ sym ends)
-          ∙ sym (drop-drop (end - middle) (count + middle) t₁) ∙ ap (drop (end - middle)) (ap (λ k. drop k t₁) (sym s₁) ∙ r₁ ∙ ap (λ k. drop k table) s₁) ∙ drop-drop (end - middle) (count + middle) table
-          ∙ ap₂ (λ k xs. drop k xs) ends B.table_is ∙ padded_drop (blank_entry m) places (count + end) T (omega (arith, c)) in (
+          let after : List (Entry V) = listed m n (rooted m (suc r) (best m n rs)) in
+          let n₁ : t.count ≡ table.count + length one = c₁ (omega arith) in
+          let n₂ : u.count ≡ t.count + length two = c₂ (omega arith) in
+          let M : Merged T outs (take t.count t.cells.now) =
+          subst (λ x. Merged T x (take t.count t.cells.now)) q₁ (subst (λ x. Merged x one (take t.count t.cells.now)) used_is
+          (m₁ (omega arith) (subst (λ x. Mergeable x one) (sym used_is) (subst (Mergeable T) (sym q₁) (first_mergeable m L n B.small rs B.register r B.root_below outs ins ro ri))))) in
+          let N : Merged (take t.count t.cells.now) ins (take u.count u.cells.now) =
+          subst (λ x. Merged (take t.count t.cells.now) x (take u.count u.cells.now)) q₂
+          (m₂ (omega arith) (subst (Mergeable (take t.count t.cells.now)) (sym q₂) (second_mergeable m L n B.small rs B.register r B.root_below outs ins ro ri (take t.count t.cells.now) M))) in
+          let size : u.count ≡ length (listed m n (rooted m (suc r) (best m n rs))) = omega (arith, long_after) in
+          let rest : drop u.count u.cells.now ≡ replicate (length table.cells.now - u.count) (blank_entry m) =
+          ap (λ j. drop j u.cells.now) n₂ ∙ r₂ ∙ sym (drop-drop (length two) t.count t.cells.now)
+          ∙ ap (drop (length two)) (ap (λ j. drop j t.cells.now) n₁ ∙ r₁ ∙ ap (λ j. drop j table.cells.now) (sym n₁)) ∙ drop-drop (length two) t.count table.cells.now
+          ∙ ap₂ (λ j xs. drop j xs) (sym n₂) B.table_is ∙ padded_drop (blank_entry m) (length table.cells.now) u.count T (omega (arith, B.count_is)) in (
             size,
             omega arith,
-            sym (take-append-drop (count + end) t₂) ∙ ap₂ ◌++◌ is rest ∙ ap (λ k. listed m n (rooted m (suc r) (best m n rs)) ++ replicate (places - k) (blank_entry m)) size,
+            sym (take-append-drop u.count u.cells.now) ∙ ap₂ ◌++◌ (after_root m L n B.small rs B.register r B.root_below outs ins ro ri (take t.count t.cells.now) M (take u.count u.cells.now) N) rest
+                ∙ ap (λ j. after ++ replicate (length table.cells.now - j) (blank_entry m)) size,
           )

@@ -1,6 +1,6 @@
 -- A turn of the search, either way: the sheet found is unsettled, and settling it keeps the search under way.
-use Rattle.std.proofs.Common.{◌≡◌, ℕ, zero, suc, ◌<◌, ◌≤◌, Bool, true, false, cond, not, ◌&&◌, eqb, List, get_or, set, replicate, Some, None, Option, sym, refl, ap, ◌∙◌, subst, ap₂, ⊎_elim, arith}
-use Rattle.std.proofs.lemmas.Bool.{cases_Bool, cond-true, cond-false, and_parts, eqb-true}
+use Rattle.std.proofs.Common.{◌≡◌, ℕ, zero, suc, ◌<◌, ◌≤◌, Bool, true, false, cond, not, ◌&&◌, eqb, List, get_or, set, replicate, Some, None, Option, sym, refl, ap, ◌∙◌, subst, ap₂, arith}
+use Rattle.std.proofs.lemmas.Bool.{and_parts, eqb-true}
 use Rattle.theory.specs.declared.Redraw.{Redraw}
 use Rattle.theory.specs.declared.Entry.{Entry}
 use Rattle.theory.specs.declared.Way.{Way}
@@ -18,23 +18,14 @@ use Rattle.theory.proofs.Searching as searching
 use Rattle.theory.proofs.Growing as growing
 use Rattle.roots.specs.Turns.{Ready}
 
-some_inj : (a b : ℕ) → ◌≡◌ {A = Option ℕ} (Some a) (Some b) → a ≡ b
-some_inj a b e = cc
-
-none_some : (a : ℕ) → ◌≡◌ {A = Option ℕ} None (Some a) → ⊥
-none_some a e = let z : ◌≡◌ {A = ℕ} 0 1 = cc in omega arith
-
 -- the sheet found is unsettled
 pub nearest_unsettled : {V : Type 0} (m : Meaning V) (w : List V) (marks : List ℕ) (k s : ℕ) → nearest_below m w marks k ≡ Some s → get_or marks s 1 ≡ 0
-nearest_unsettled m w marks zero s e = absurd (none_some s e)
-nearest_unsettled m w marks (suc k) s e = ⊎_elim
-    (λ (t : (unsettled marks k && m.better (get_or w k m.none) (value_at m w (nearest_below m w marks k))) ≡ true).
-    let p = and_parts (unsettled marks k) (m.better (get_or w k m.none) (value_at m w (nearest_below m w marks k))) t in
-    let q : k ≡ s = some_inj k s (sym (cond-true (unsettled marks k && m.better (get_or w k m.none) (value_at m w (nearest_below m w marks k))) (Some k) (nearest_below m w marks k) t) ∙ e) in
-    subst (λ x. get_or marks x 1 ≡ 0) q (eqb-true (get_or marks k 1) 0 p.0))
-    (λ (f : (unsettled marks k && m.better (get_or w k m.none) (value_at m w (nearest_below m w marks k))) ≡ false).
-    nearest_unsettled m w marks k s (sym (cond-false (unsettled marks k && m.better (get_or w k m.none) (value_at m w (nearest_below m w marks k))) (Some k) (nearest_below m w marks k) f) ∙ e))
-    (cases_Bool (unsettled marks k && m.better (get_or w k m.none) (value_at m w (nearest_below m w marks k))))
+nearest_unsettled m w marks zero s e = cc
+nearest_unsettled m w marks (suc k) s e = by_test (nearest_unsettled m w marks k s) _ refl e
+  where
+    by_test : (nearest_below m w marks k ≡ Some s → get_or marks s 1 ≡ 0) → (b : Bool) → (unsettled marks k && m.better (get_or w k m.none) (value_at m w (nearest_below m w marks k))) ≡ b → cond b (Some k) (nearest_below m w marks k) ≡ Some s → get_or marks s 1 ≡ 0
+    by_test below true t h = let q : k ≡ s = cc in subst (λ x. get_or marks x 1 ≡ 0) q (eqb-true (get_or marks k 1) 0 (and_parts (unsettled marks k) _ t).0)
+    by_test below false t h = below h
 
 -- settling it leaves fewer sheets unsettled
 pub turn_ends : {V : Type 0} (m : Meaning V) (w : List V) (marks : List ℕ) (k s : ℕ) (pruned : Bool) → nearest_below m w marks k ≡ Some s → searching.unsettled_count (settled_marks pruned s marks) < searching.unsettled_count marks

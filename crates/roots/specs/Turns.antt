@@ -1,5 +1,5 @@
 -- The turns of a search: the sheet nearest to the root so far, and what settling it does to work and marks.
-use Rattle.std.specs.Prelude.{◌≡◌, ℕ, suc, ◌+◌, ◌<◌, ◌≤◌, cond, ◌&&◌, List, ◌++◌, length, take, drop, replicate, Some, None, Option, slice_index_or}
+use Rattle.std.specs.Prelude.{◌≡◌, ℕ, suc, ◌+◌, ◌<◌, ◌≤◌, cond, ◌&&◌, List, ◌++◌, length, take, drop, replicate, Some, None, Option, Ok, Err, Result, slice_index_or}
 use Rattle.theory.specs.declared.Redraw.{Redraw}
 use Rattle.theory.specs.declared.Entry.{Entry}
 use Rattle.theory.specs.declared.Way.{Way}
@@ -35,6 +35,11 @@ Both spare outs ins (Some ends) spare' = (ends.0 ≡ length outs) × (ends.1 ≡
 
 abbrev pub BothGathered : {V : Type 0} → Meaning V → ℕ → List Redraw → ℕ → List (Entry V) → Option (ℕ × ℕ) → List (Entry V) → Type 0
 BothGathered {V} m n rs r spare ends spare' = (outs : List (Entry V)) × (ins : List (Entry V)) × Run m n rs r Out outs × Run m n rs r In ins × Both spare outs ins ends spare'
+
+-- the ends of the two runs, by the answer to the call: where the first ends, and how many entries are in use
+abbrev pub both_ends : {E : Type 0} → Result ℕ E → ℕ → Option (ℕ × ℕ)
+both_ends (Ok middle) end = Some (middle, end)
+both_ends (Err e) end = None
 
 -- the root r can be built: the table holds the entries after r roots, the rest of it, spare, work and marks are blank
 pub record Buildable {V : Type 0} (m : Meaning V) (n : ℕ) (rs : List Redraw) (r places count : ℕ) (table spare : List (Entry V)) (work : List V) (marks : List ℕ) : Type 0 where

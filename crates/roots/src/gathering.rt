@@ -1,76 +1,63 @@
-// Both searches of a root, each with its new entries written into the spare strip.
+// Both searches of a root, each with its new entries put into the spare strip.
 ghost use Rattle.std.specs.Prelude.{◌≡◌, ◌≤◌, length, replicate};
 ghost use Rattle.theory.specs.Measures.{Lawful};
-ghost use Rattle.roots.specs.Turns.{Ready, Gathered, BothGathered};
+ghost use Rattle.strips.specs.Strips.{Lengthened, count_after};
+ghost use Rattle.roots.specs.Turns.{Ready, Gathered, BothGathered, both_ends};
 
-use crate::collect::collect;
-use crate::search::search;
+use crate::search::Search;
 use measures::Measure;
-use strips::{Marks, put, wipe};
+use strips::{Full, Marks, Strip, put, wipe};
 use theory::{Entry, Redraw, Way};
 
-/// Searches from the root one way and writes its new entries after the first `count` of the spare strip; nothing if they do not fit.
+/// Searches from the root one way and puts its new entries into the spare strip; refuses if they do not fit.
 /// The guard clears the marks on every way out, and the work strip is blank again.
 fn gather<M: Measure>(
-    way: Way,
-    register: &[Redraw],
-    table: &[Entry<M>],
-    root: u16,
-    sheets: u16,
-    spare: &mut [Entry<M>],
-    count: usize,
+    search: &Search<M>,
+    spare: &mut Strip<Entry<M>>,
     work: &mut [M],
     marks: &mut [u8],
-) -> Option<usize>
-    ensures places { length spare.new ≡ length spare.old }
+) -> Result<(), Full>
+    ensures strip { Lengthened spare.old spare.new }
     ensures work { work.new ≡ replicate (length work.old) M.Measure.meaning.none }
     ensures marks { marks.new ≡ replicate (length marks.old) 0 }
-    ensures found { Lawful M.Measure.meaning → Ready M.Measure.meaning sheets register.now table.now root → work.old ≡ replicate sheets M.Measure.meaning.none → marks.old ≡ replicate sheets 0 → count ≤ length spare.old → Gathered M.Measure.meaning sheets register.now root way spare.old count result spare.new }
+    ensures found { Lawful M.Measure.meaning → Ready M.Measure.meaning search.now.sheets search.now.register.now search.now.table.now search.now.root → work.old ≡ replicate search.now.sheets M.Measure.meaning.none → marks.old ≡ replicate search.now.sheets 0 → spare.old.count ≤ length spare.old.cells.now → Gathered M.Measure.meaning search.now.sheets search.now.register.now search.now.root search.now.way spare.old.cells.now spare.old.count (count_after result spare.new) spare.new.cells.now }
 {
     let guard = Marks { cells: marks };
-    put(work, root as usize, M::empty());
-    search(way, register, table, root, sheets, work, guard.cells);
-    let end = collect(way, root, sheets, work, guard.cells, spare, count);
+    put(work, search.root as usize, M::empty());
+    search.run(work, guard.cells);
+    let gathered = search.collect(work, guard.cells, spare);
     wipe(work, 0, M::none());
-    end
+    gathered
 }
 
-/// Searches from the root both ways; answers where the first run ends in the spare strip and where the second.
+/// Searches from the root both ways, first out from it; answers how many entries are in use after the first.
 pub fn gather_both<M: Measure>(
     register: &[Redraw],
     table: &[Entry<M>],
-    root: u16,
-    sheets: u16,
-    spare: &mut [Entry<M>],
+    spare: &mut Strip<Entry<M>>,
     work: &mut [M],
     marks: &mut [u8],
-) -> Option<(usize, usize)>
-    ensures places { length spare.new ≡ length spare.old }
+    root: u16,
+    sheets: u16,
+) -> Result<usize, Full>
+    ensures strip { Lengthened spare.old spare.new }
     ensures work { work.new ≡ replicate (length work.old) M.Measure.meaning.none }
     ensures marks { marks.new ≡ replicate (length marks.old) 0 }
-    ensures found { Lawful M.Measure.meaning → Ready M.Measure.meaning sheets register.now table.now root → work.old ≡ replicate sheets M.Measure.meaning.none → marks.old ≡ replicate sheets 0 → BothGathered M.Measure.meaning sheets register.now root spare.old result spare.new }
+    ensures found { Lawful M.Measure.meaning → Ready M.Measure.meaning sheets register.now table.now root → work.old ≡ replicate sheets M.Measure.meaning.none → marks.old ≡ replicate sheets 0 → spare.old.count ≡ 0 → BothGathered M.Measure.meaning sheets register.now root spare.old.cells.now (both_ends result spare.new.count) spare.new.cells.now }
 {
-    let outs = gather(
-        Way::Out,
+    let outs = Search {
+        way: Way::Out,
         register,
         table,
         root,
         sheets,
-        spare,
-        0,
-        work,
-        marks,
-    )?;
-    let ins = gather(
-        Way::In,
-        register,
-        table,
-        root,
-        sheets,
-        spare,
-        outs,
-        work,
-        marks,
-    )?;
-    Some((outs, ins))
+    };
+    gather(&outs, spare, work, marks)?;
+    let middle = spare.count;
+    let ins = Search {
+        way: Way::In,
+        ..outs
+    };
+    gather(&ins, spare, work, marks)?;
+    Ok(middle)
 }

@@ -1,11 +1,10 @@
-// The root builder over plain slices: a pruned search from a root, out along the redraws and in against them,
+// The root builder over lent strips: a pruned search from a root, out along the redraws and in against them,
 // gives the root's new entries; they are put into the table in order.
 #![tactic(auto)]
 
 mod builder;
 mod collect;
 mod gathering;
-mod parts;
 mod search;
 mod ways;
 

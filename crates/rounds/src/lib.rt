@@ -3,67 +3,67 @@
 
 ghost use Rattle.std.specs.Prelude.{◌≡◌, ℕ, List, length, replicate};
 ghost use Rattle.theory.specs.Measures.{Lawful};
-ghost use Rattle.theory.specs.Tables.{Table};
-ghost use Rattle.theory.specs.Order.{blank_entry};
-ghost use Rattle.generation.specs.Laying.{Laid, next_generated};
-ghost use Rattle.rounds.specs.Laying.{Roundable, LaidRound};
-ghost use Rattle.rounds.specs.Turns.{Standing};
+ghost use Rattle.theory.specs.Order.{Sorted};
+ghost use Rattle.strips.specs.Strips.{Lengthened};
+ghost use Rattle.generation.specs.Laying.{next_generated, Takeable};
+ghost use Rattle.rounds.specs.Laying.{next_round, Registered, Roundable, LaidRound};
 
-use generation::generate;
+use generation::{Source, generate};
 use measures::Measure;
-use pruning::{Pruned, prune};
-use strips::{part, wipe};
+use pruning::prune;
+use strips::{Full, Strip};
+use tables::blank_entry;
 use theory::{Entry, Redraw};
 
-/// Makes every place of the spare strip blank.
-fn clear<M: Measure>(spare: &mut [Entry<M>])
-    ensures { spare.new ≡ replicate (length spare.old) (blank_entry M.Measure.meaning) }
+/// What the next round takes: the redraws, if a register is given, otherwise the present entries.
+fn source<'a, M: Measure>(register: Option<&'a [Redraw]>, present: &'a [Entry<M>]) -> Source<'a, M>
+    ensures table { (n : ℕ) → next_generated M.Measure.meaning n result ≡ next_round M.Measure.meaning n register.entry present.now }
+    ensures takeable { (n : ℕ) → Registered n register.entry → Sorted M.Measure.meaning n present.now → Takeable M.Measure.meaning n result }
 {
-    let blank = Entry {
-        from: 0,
-        to: 0,
-        value: M::none(),
-    };
-    wipe(spare, 0, blank);
+    match register {
+        Some(redraws) => Source::Redraws(redraws),
+        None => Source::Entries(present),
+    }
 }
 
-/// Prunes the generated table, so many entries laid in the spare strip, into the table, whose first `count` entries are the present ones.
-/// Answers nothing, with the table untouched, if the generated table was not laid for want of places.
-fn prune_laid<M: Measure>(
-    laid: Option<usize>,
-    spare: &[Entry<M>],
-    table: &mut [Entry<M>],
-    count: usize,
-) -> Option<Pruned>
-    ensures places { length table.new ≡ length table.old }
-    ensures pruned { Lawful M.Measure.meaning → (n : ℕ) (g : Table M) (es : List (Entry M)) → Standing M.Measure.meaning n g es (length table.old) count table.old → Laid M.Measure.meaning n g (length table.old) laid spare.now → LaidRound M.Measure.meaning n g es (length table.old) table.old result table.new }
-{
-    let Some(entries) = laid else {
-        return None;
-    };
-    let pruned = prune(part(spare, 0, entries), table, count);
-    Some(pruned)
-}
-
-/// Lays the next round: the first `count` entries of the table are the present ones, and afterwards it holds those that the round leaves.
-/// Answers how many there are and whether they are what stood there before; nothing, with the table untouched,
-/// if the generated table, before pruning, exceeds the places. Spare and work are lent blank and are blank again, on every way out.
-pub fn lay<M: Measure>(
-    first: bool,
-    register: &[Redraw],
-    table: &mut [Entry<M>],
-    count: usize,
-    spare: &mut [Entry<M>],
+/// Generates the table of the next round in the spare strip and prunes it into the table.
+/// Refused, with the table untouched, if the generated table, before pruning, exceeds the places.
+fn turn<M: Measure>(
+    register: Option<&[Redraw]>,
+    table: &mut Strip<Entry<M>>,
+    spare: &mut Strip<Entry<M>>,
     work: &mut [M],
     sheets: u16,
-) -> Option<Pruned>
-    ensures places { length table.new ≡ length table.old }
+) -> Result<bool, Full>
+    ensures places { length table.new.cells.now ≡ length table.old.cells.now }
+    ensures same { table.new.cells.ghost_name ≡ table.old.cells.ghost_name }
+    ensures spare { Lengthened spare.old spare.new }
     ensures work { work.new ≡ replicate (length work.old) M.Measure.meaning.none }
-    ensures spare { (es : List (Entry M)) → Roundable M.Measure.meaning sheets register.now es (length table.old) count table.old spare.old work.old → spare.new ≡ spare.old }
-    ensures laid { Lawful M.Measure.meaning → (es : List (Entry M)) → Roundable M.Measure.meaning sheets register.now es (length table.old) count table.old spare.old work.old → LaidRound M.Measure.meaning sheets (next_generated M.Measure.meaning sheets first register.now es) es (length table.old) table.old result table.new }
+    ensures laid { Lawful M.Measure.meaning → (es : List (Entry M)) → Roundable M.Measure.meaning sheets register.entry es table.old spare.old work.old → LaidRound M.Measure.meaning sheets (next_round M.Measure.meaning sheets register.entry es) es table.old result table.new }
 {
-    let laid = generate(first, register, part(table, 0, count), sheets, spare, work);
-    let pruned = prune_laid(laid, spare, table, count);
-    clear(spare);
-    pruned
+    generate(source(register, table.items()), sheets, spare, work)?;
+    Ok(prune(spare.items(), table))
+}
+
+/// Lays the next round: from the redraws, where the book is open and its register is given, otherwise from the present entries.
+/// The table has the present entries, and afterwards those that the round leaves. Answers whether they are the same;
+/// refused, with the table untouched, if the generated table, before pruning, exceeds the places.
+/// Spare and work are lent blank and are blank again, on every way out.
+pub fn lay<M: Measure>(
+    register: Option<&[Redraw]>,
+    table: &mut Strip<Entry<M>>,
+    spare: &mut Strip<Entry<M>>,
+    work: &mut [M],
+    sheets: u16,
+) -> Result<bool, Full>
+    ensures places { length table.new.cells.now ≡ length table.old.cells.now }
+    ensures same { table.new.cells.ghost_name ≡ table.old.cells.ghost_name }
+    ensures spare_same { spare.new.cells.ghost_name ≡ spare.old.cells.ghost_name }
+    ensures work { work.new ≡ replicate (length work.old) M.Measure.meaning.none }
+    ensures spare { (es : List (Entry M)) → Roundable M.Measure.meaning sheets register.entry es table.old spare.old work.old → (spare.new.cells.now ≡ spare.old.cells.now) × (spare.new.count ≡ spare.old.count) }
+    ensures laid { Lawful M.Measure.meaning → (es : List (Entry M)) → Roundable M.Measure.meaning sheets register.entry es table.old spare.old work.old → LaidRound M.Measure.meaning sheets (next_round M.Measure.meaning sheets register.entry es) es table.old result table.new }
+{
+    let same = turn(register, table, spare, work, sheets);
+    spare.truncate(0, blank_entry());
+    same
 }

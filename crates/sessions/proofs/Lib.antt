@@ -1,4 +1,3 @@
-pub mod Answering
 pub mod Cutting
 pub mod Listing
 pub mod Serving

@@ -1,6 +1,6 @@
 -- What a command does to a book, and what is printed of it. A command is a call of the book; the answer is printed as a line of its
 -- own, a list of entries as a line each, and a refusal as a line with the layer book, word 0 and the refusal's number.
-use Rattle.std.specs.Prelude.{◌≡◌, ℕ, List, [], ◌∷◌, ◌++◌, Some, None, Option}
+use Rattle.std.specs.Prelude.{◌≡◌, ℕ, List, [], ◌∷◌, ◌++◌, Some, None, Option, Result, OnOk, string_bytes}
 use Rattle.theory.specs.declared.Entry.{Entry}
 use Rattle.theory.specs.Measures.{Meaning}
 use Rattle.theory.specs.Books.{View, Call, Answer, enter, clear, root, look, list, refused, entered, cleared, built, looked, entries_are, answered, moved}
@@ -9,6 +9,7 @@ use Rattle.orders.specs.declared.commands.Command.{Command}
 use Rattle.orders.specs.declared.commands.Command.TheVariants as command
 use Rattle.answers.specs.declared.Layer.TheVariants.{Book}
 use Rattle.answers.specs.Printed.{refused_line, redraw_line, clear_line, root_line, look_line, entry_line}
+use Rattle.sessions.specs.declared.attend.Session.{Session}
 
 -- the call that a command asks for; an opening asks for none
 abbrev pub call_of : Command → Option Call
@@ -55,10 +56,17 @@ attended m v c = call_view m v (call_of c)
 abbrev pub PrintedAs : {V : Type 0} → (V → Option (List ℕ)) → (V → List ℕ) → Type 0
 PrintedAs {V} shown text = (a : V) → shown a ≡ Some (text a)
 
--- the text is the one before, and after it what is told, however values are printed
-abbrev pub Told : {V : Type 0} → List ℕ → ((V → List ℕ) → List ℕ) → List ℕ → Type 0
-Told {V} before told after = (text : V → List ℕ) → after ≡ before ++ told text
-
--- the same where values are printed as they are shown
+-- the text is the one before, and after it what is told, where values are printed as they are shown
 abbrev pub ToldAs : {V : Type 0} → (V → Option (List ℕ)) → List ℕ → ((V → List ℕ) → List ℕ) → List ℕ → Type 0
 ToldAs {V} shown before told after = (text : V → List ℕ) → PrintedAs shown text → after ≡ before ++ told text
+
+-- the session holds the same book and the same text as before
+pub record Keeps {B : Type 0} (before after : Session B) : Type 0 where
+  pub same_book : after.book.ghost_name ≡ before.book.ghost_name
+  pub same_out : after.out.ghost_name ≡ before.out.ghost_name
+
+-- a call, if there is one, was carried out by the session for the line with this number: the book moved by it, and its answer was
+-- printed unless memory ran out
+pub record Answered {B V X Y : Type 0} (view : B → View V) (m : Meaning V) (shown : V → Option (List ℕ)) (number : ℕ) (call : Option Call) (before after : Session B) (r : Result X Y) : Type 0 where
+  pub moves : view after.book.now ≡ call_view m (view before.book.now) call
+  pub tells : OnOk r (ToldAs shown (string_bytes before.out.now) (λ text. call_text m text number (view before.book.now) call) (string_bytes after.out.now))

@@ -1,9 +1,10 @@
 // A session: every line of the input is read, carried out and answered.
 ghost use Rattle.std.specs.Prelude.{◌≡◌, [], ◌++◌, IfOk, string_bytes, OnOk};
+ghost use Rattle.sessions.specs.Attending.{Keeps};
 ghost use Rattle.sessions.specs.InputLines.{ahead};
 ghost use Rattle.sessions.specs.Serving.{ReadAs, refusal_text, LineServed, Served, LineAwaited, OpeningAwaited};
 
-use crate::attend::attend;
+use crate::attend::Session;
 use crate::lines::{Line, Lines};
 use answers::Layer;
 use orders::commands::{Command, read};
@@ -14,22 +15,25 @@ use std::alloc::{AllocError, Global};
 use std::fmt::Display;
 use words::split::words;
 
-// An opening that the line language takes: the number of its line, the kind of the book and its sheets.
-#[derive(Clone, Copy)]
+/// An opening that the line language takes: the number of its line, the kind of the book and its sheets.
+#[derive(Clone, Copy, Debug, PartialEq, Eq)]
 pub struct Opening {
+    /// The number of its line.
     pub number: usize,
+    /// The kind of the book.
     pub kind: Kind,
+    /// How many sheets the book is to have.
     pub sheets: u32,
 }
 
-// Prints that the line language refuses the line.
+/// Prints that the line language refuses the line.
 fn line_refused(out: &mut String, number: usize, refusal: LineRefusal) -> Result<(), AllocError>
     ensures { OnOk result (string_bytes out.new ≡ string_bytes out.old ++ refusal_text number refusal) }
 {
     answers::refused(out, number, Layer::Line, refusal.word(), refusal.number())
 }
 
-// What a line asks for, where an opening was accepted before or not; none where the line has no words.
+/// What a line asks for, where an opening was accepted before or not; none where the line has no words.
 fn asked(
     heap: Global,
     text: &[u8],
@@ -44,50 +48,44 @@ fn asked(
     Ok(Some(read(text, &places, opened)))
 }
 
-// Carries the line out on the book, and prints its answer or its refusal; nothing for a line without words.
-fn serve_line<B: PricedBook>(
-    heap: Global,
-    book: &mut B,
-    line: Line,
-    out: &mut String,
-) -> Result<(), AllocError>
+impl<'b, 'o, B: PricedBook> Session<'b, 'o, B>
 where
     B::Value: Display,
-    ensures { OnOk result (LineServed B.Value.Measure.meaning B.Value.Display.output line.entry.number line.entry.text.now (B.view book.old) (B.view book.new) (string_bytes out.old) (string_bytes out.new)) }
 {
-    let Some(reading) = asked(heap, line.text, true)? else {
-        return Ok(());
-    };
-    match reading {
-        Ok(command) => attend(heap, book, line.number, command, out),
-        Err(refusal) => line_refused(out, line.number, refusal),
+    /// Carries the line out on the book, and prints its answer or its refusal; nothing for a line without words.
+    fn serve_line(&mut self, line: Line) -> Result<(), AllocError>
+        ensures served { OnOk result (LineServed B.Value.Measure.meaning B.Value.Display.output line.entry.number line.entry.text.now (B.view self.old.book.now) (B.view self.new.book.now) (string_bytes self.old.out.now) (string_bytes self.new.out.now)) }
+        ensures keeps { Keeps self.old self.new }
+    {
+        let Some(reading) = asked(*self.out.allocator(), line.text, true)? else {
+            return Ok(());
+        };
+        match reading {
+            Ok(command) => self.attend(line.number, command),
+            Err(refusal) => line_refused(self.out, line.number, refusal),
+        }
+    }
+
+    /// Serves every further line of the input.
+    pub fn serve(&mut self, lines: &mut Lines) -> Result<(), AllocError>
+        ensures input { lines.new.input.now ≡ lines.old.input.now }
+        ensures ended { OnOk result (ahead lines.new.input.now lines.new.place ≡ []) }
+        ensures served { OnOk result (Served B.Value.Measure.meaning B.Value.Display.output lines.old.number (ahead lines.old.input.now lines.old.place) (B.view self.old.book.now) (B.view self.new.book.now) (string_bytes self.old.out.now) (string_bytes self.new.out.now)) }
+        ensures keeps { Keeps self.old self.new }
+    {
+        // a `for` over a lent cursor would not tell where it stands afterwards
+        while let Some(line) = lines.next() {
+            self.serve_line(line)?;
+        }
+        Ok(())
     }
 }
 
-// Serves every further line of the input.
-pub fn serve<B: PricedBook>(
-    heap: Global,
-    book: &mut B,
-    lines: &mut Lines,
-    out: &mut String,
-) -> Result<(), AllocError>
-where
-    B::Value: Display,
-    ensures input { lines.new.input.now ≡ lines.old.input.now }
-    ensures ended { OnOk result (ahead lines.new.input.now lines.new.place ≡ []) }
-    ensures served { OnOk result (Served B.Value.Measure.meaning B.Value.Display.output lines.old.number (ahead lines.old.input.now lines.old.place) (B.view book.old) (B.view book.new) (string_bytes out.old) (string_bytes out.new)) }
-{
-    while let Some(line) = lines.next() {
-        serve_line(heap, book, line, out)?;
-    }
-    Ok(())
-}
-
-// Reads the line before any book is open: answers an opening, and prints the refusal of any other line with words.
-fn open_line(heap: Global, line: Line, out: &mut String) -> Result<Option<Opening>, AllocError>
+/// Reads the line before any book is open: answers an opening, and prints the refusal of any other line with words.
+fn open_line(line: Line, out: &mut String) -> Result<Option<Opening>, AllocError>
     ensures { IfOk result (λ found. LineAwaited line.entry.number line.entry.text.now found (string_bytes out.old) (string_bytes out.new)) }
 {
-    match asked(heap, line.text, false)? {
+    match asked(*out.allocator(), line.text, false)? {
         Some(Ok(Command::Open(kind, sheets))) => {
             Ok(Some(Opening {
                 number: line.number,
@@ -103,17 +101,14 @@ fn open_line(heap: Global, line: Line, out: &mut String) -> Result<Option<Openin
     }
 }
 
-// Reads lines until one is an opening, which it answers; none at the end of the input.
-pub fn await_opening(
-    heap: Global,
-    lines: &mut Lines,
-    out: &mut String,
-) -> Result<Option<Opening>, AllocError>
+/// Reads lines until one is an opening, which it answers; none at the end of the input.
+pub fn await_opening(lines: &mut Lines, out: &mut String) -> Result<Option<Opening>, AllocError>
     ensures input { lines.new.input.now ≡ lines.old.input.now }
     ensures awaited { IfOk result (λ found. OpeningAwaited lines.old.number (ahead lines.old.input.now lines.old.place) found (ahead lines.new.input.now lines.new.place) lines.new.number (string_bytes out.old) (string_bytes out.new)) }
 {
+    // a `for` over a lent cursor would not tell where it stands afterwards
     while let Some(line) = lines.next() {
-        if let Some(opening) = open_line(heap, line, out)? {
+        if let Some(opening) = open_line(line, out)? {
             return Ok(Some(opening));
         }
     }

@@ -1,52 +1,10 @@
 -- Lemmas on lists whose places from some place on are made blank.
 
-use Rattle.std.proofs.Common.{◌≡◌, ℕ, ◌+◌, ◌-◌, ◌<◌, ◌≤◌, min, List, [], ◌++◌, length, take, drop, set, replicate, sym, ap, ◌∙◌, subst, ⊎_elim, append_assoc, append-nil, arith, length-append, length-drop, length-take}
+use Rattle.std.proofs.Common.{◌≡◌, ℕ, ◌+◌, ◌-◌, ◌<◌, ◌≤◌, List, ◌++◌, length, take, drop, set, replicate, sym, ap, ◌∙◌, ⊎_elim, append_assoc, append-nil, arith, length-append, length-take}
 use lib.ListN.{length-replicate}
-use lib.Seq.{paste}
-use Rattle.std.proofs.lemmas.List.{take_all, drop_all, take_at, drop_at, length-take-le, length-set, drop-set-lt, drop-drop, drop-replicate, set_past, take-take, take-append-le, replicate-append-replicate}
+use Rattle.std.proofs.lemmas.List.{take_all, take_at, drop_at, length-take-le, length-set, drop-set-lt, drop-drop, drop-replicate, take-take, take-append-le, replicate-append-replicate}
 use Rattle.std.proofs.lemmas.Bool.{cases_lt}
-use Rattle.std.proofs.lemmas.List.Edits.{paste_none, fill_from_more}
 use Rattle.strips.specs.Strips.{wiped, Held}
-
--- the places from `from` up to `i` made blank
-abbrev pub part_wiped : {T : Type 0} → List T → ℕ → ℕ → T → List T
-part_wiped d from i b = paste d from (replicate (min i (length d) - from) b) (min i (length d) - from)
-
--- none is blank yet
-pub part_wiped_none : {T : Type 0} (d : List T) (from : ℕ) (b : T) → d ≡ part_wiped d from from b
-part_wiped_none d from b =
-    let z : min from (length d) - from ≡ 0 = omega arith in rw z (paste_none d from (replicate 0 b))
-
--- one more is blank, if there is one
-pub part-wiped-more :
-    {T : Type 0} (d : List T) (from i : ℕ) (b : T) → from ≤ i → set (part_wiped d from i b) i b ≡ part_wiped d from (i + 1) b
-part-wiped-more d from i b le =
-    let here : i < length d → set (part_wiped d from i b) i b ≡ part_wiped d from (i + 1) b =
-    λ lt. let k : ℕ = i - from in
-    let was : min i (length d) - from ≡ k = omega arith in
-    let is : min (i + 1) (length d) - from ≡ k + 1 = omega arith in
-    let at : from + k ≡ i = omega arith in
-    let h : from + k < length d = omega arith in
-    let step : set (paste d from (replicate k b) k) i b ≡ paste d from (replicate (k + 1) b) (k + 1) =
-    subst (λ (n : ℕ). set (paste d from (replicate k b) k) n b ≡ paste d from (replicate (k + 1) b) (k + 1)) at (fill_from_more d from k b h) in
-    ap (λ n. set (paste d from (replicate n b) n) i b) was ∙ step ∙ ap (λ n. paste d from (replicate n b) n) (sym is) in
-    let past : length d ≤ i → set (part_wiped d from i b) i b ≡ part_wiped d from (i + 1) b =
-    λ ge. let n : length (part_wiped d from i b) ≤ i =
-    simp (length-append, length-take, length-drop, length-replicate) (omega arith) in
-    let same : min i (length d) - from ≡ min (i + 1) (length d) - from = omega arith in
-    set_past (part_wiped d from i b) i b n ∙ ap (λ n. paste d from (replicate n b) n) same in
-    ⊎_elim here past (cases_lt i (length d))
-
--- all are blank
-pub part-wiped-all :
-    {T : Type 0} (d : List T) (from i : ℕ) (b : T) → length d ≤ i → part_wiped d from i b ≡ wiped d from b
-part-wiped-all d from i b past =
-    let k : ℕ = length d - from in
-    let is : min i (length d) - from ≡ k = omega arith in
-    let fits : length (replicate k b) ≤ k = rw length-replicate (omega arith) in
-    let full : take k (replicate k b) ≡ replicate k b = take_all k (replicate k b) fits in
-    let none : drop (from + k) d ≡ [] = drop_all (from + k) d (omega arith) in
-    ap (λ n. paste d from (replicate n b) n) is ∙ rw (full, none) (append-nil (take from d ++ replicate k b))
 
 -- wiping keeps the number of places
 pub length_wiped : {T : Type 0} (cells : List T) (n : ℕ) (b : T) → length (wiped cells n b) ≡ length cells
@@ -80,22 +38,22 @@ held-push cells count x b lt h =
 
 -- the front made blank from a place on, before a rest that is blank already: every place from there on is blank
 pub front-wiped :
-    {T : Type 0} (cells front : List T) (from to k : ℕ) (b : T) → k ≡ to → from ≤ to → front ≡ wiped (take k cells) from b → Held b cells to → front ++ drop k cells ≡ wiped cells from b
-front-wiped cells front from to k b e le is held =
+    {T : Type 0} (cells front : List T) (from to : ℕ) (b : T) → from ≤ to → front ≡ wiped (take to cells) from b → Held b cells to → front ++ drop to cells ≡ wiped cells from b
+front-wiped cells front from to b le is held =
     let within : to ≤ length cells = held.0 in
-    let long : length (take k cells) - from ≡ to - from = let h = length-take k cells in omega arith in
+    let long : length (take to cells) - from ≡ to - from = let h = length-take to cells in omega arith in
     let all : (to - from) + (length cells - to) ≡ length cells - from = omega arith in
-    ap (λ xs. xs ++ drop k cells) is
-    ∙ ap (λ n. (take from (take k cells) ++ replicate n b) ++ drop k cells) long
-    ∙ ap (λ xs. (xs ++ replicate (to - from) b) ++ drop k cells) (take-take from k cells (omega arith))
-    ∙ append_assoc (take from cells) (replicate (to - from) b) (drop k cells)
-    ∙ ap (λ xs. take from cells ++ (replicate (to - from) b ++ xs)) (ap (λ n. drop n cells) e ∙ held.1)
+    ap (λ xs. xs ++ drop to cells) is
+    ∙ ap (λ n. (take from (take to cells) ++ replicate n b) ++ drop to cells) long
+    ∙ ap (λ xs. (xs ++ replicate (to - from) b) ++ drop to cells) (take-take from to cells (omega arith))
+    ∙ append_assoc (take from cells) (replicate (to - from) b) (drop to cells)
+    ∙ ap (λ xs. take from cells ++ (replicate (to - from) b ++ xs)) held.1
     ∙ ap (λ xs. take from cells ++ xs) (replicate-append-replicate (to - from) (length cells - to) b ∙ ap (λ n. replicate n b) all)
 
 -- what stands before is kept
 pub front_kept :
-    {T : Type 0} (cells front : List T) (from to k : ℕ) (b : T) → k ≡ to → from ≤ to → to ≤ length cells → front ≡ wiped (take k cells) from b → take from (front ++ drop k cells) ≡ take from cells
-front_kept cells front from to k b e le within is =
-    let long : from ≤ length (take k cells) = let h = length-take k cells in omega arith in
-    let n : from ≤ length (wiped (take k cells) from b) = let h = length_wiped (take k cells) from b in omega arith in
-    ap (λ xs. take from (xs ++ drop k cells)) is ∙ take-append-le from (wiped (take k cells) from b) (drop k cells) n ∙ take_wiped (take k cells) from b ∙ take-take from k cells (omega arith)
+    {T : Type 0} (cells front : List T) (from to : ℕ) (b : T) → from ≤ to → to ≤ length cells → front ≡ wiped (take to cells) from b → take from (front ++ drop to cells) ≡ take from cells
+front_kept cells front from to b le within is =
+    let long : from ≤ length (take to cells) = let h = length-take to cells in omega arith in
+    let n : from ≤ length (wiped (take to cells) from b) = let h = length_wiped (take to cells) from b in omega arith in
+    ap (λ xs. take from (xs ++ drop to cells)) is ∙ take-append-le from (wiped (take to cells) from b) (drop to cells) n ∙ take_wiped (take to cells) from b ∙ take-take from to cells (omega arith)

@@ -1,2 +1,3 @@
 pub mod Blanks
 pub mod Adding
+pub mod Filling

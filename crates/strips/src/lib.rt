@@ -1,20 +1,21 @@
 //! Strips of lent memory: slices of records with a count of those in use.
 #![tactic(auto)]
 
-ghost use Rattle.std.specs.Prelude.{◌≡◌, ◌+◌, ◌-◌, ◌<◌, ◌≤◌, min, true, false, [], ◌∷◌, ◌++◌, length, replicate, if◌then◌else◌, nat_lt, slice_index_or, slice_range, slice_set};
+ghost use Rattle.std.specs.Prelude.{◌≡◌, ◌+◌, ◌-◌, ◌<◌, ◌≤◌, min, true, false, [], ◌∷◌, ◌++◌, length, replicate, if◌then◌else◌, is_ok, nat_lt, OnOk, OnErr, slice_index_or, slice_range, slice_set};
 ghost use Rattle.strips.specs.Strips.{Held, used, wiped};
 
 /// The record at a place, or `otherwise` past the end.
 pub fn at<T: Copy>(xs: &[T], i: usize, otherwise: T) -> T
     ensures { result ≡ slice_index_or xs.now i otherwise }
 {
-    if i < xs.len() { xs[i] } else { otherwise }
+    xs.get(i).copied().unwrap_or(otherwise)
 }
 
 /// Writes a record at a place; past the end nothing happens.
 pub fn put<T: Copy>(xs: &mut [T], i: usize, x: T)
     ensures { xs.new ≡ slice_set xs.old i x }
 {
+    // Not `get_mut`: once its borrow is over a proof knows the slice's length and no element.
     if i < xs.len() {
         xs[i] = x;
     }
@@ -24,8 +25,8 @@ pub fn put<T: Copy>(xs: &mut [T], i: usize, x: T)
 pub fn wipe<T: Copy>(xs: &mut [T], from: usize, blank: T)
     ensures { xs.new ≡ wiped xs.old from blank }
 {
-    for i in from..xs.len() {
-        xs[i] = blank;
+    if from < xs.len() {
+        xs[from..].fill_with(|| blank);
     }
 }
 
@@ -35,28 +36,7 @@ pub fn part<T>(xs: &[T], from: usize, to: usize) -> &[T]
     ensures backwards { to < from → result.now ≡ [] }
     ensures beyond { length xs.now < to → result.now ≡ [] }
 {
-    if from <= to && to <= xs.len() {
-        &xs[from..to]
-    } else {
-        &xs[0..0]
-    }
-}
-
-/// Writes a record at the count; where there is no such place, answers false and changes nothing.
-fn append<T: Copy>(cells: &mut [T], count: usize, x: T) -> bool
-    ensures answer { result ≡ nat_lt count (length cells.old) }
-    ensures room { result ≡ true → count < length cells.old }
-    ensures cells { cells.new ≡ slice_set cells.old count x }
-    ensures items { result ≡ true → used cells.new (count + 1) ≡ used cells.old count ++ x ∷ [] }
-    ensures full { result ≡ false → cells.new ≡ cells.old }
-    ensures held { result ≡ true → (b : T) → Held b cells.old count → Held b cells.new (count + 1) }
-{
-    if count < cells.len() {
-        cells[count] = x;
-        true
-    } else {
-        false
-    }
+    xs.get(from..to).unwrap_or(&[])
 }
 
 /// Makes the places from `from` up to `to` blank; where those after `to` are blank, every place from `from` on is.
@@ -66,9 +46,13 @@ fn cut<T: Copy>(cells: &mut [T], from: usize, to: usize, blank: T)
     ensures held { from ≤ to → Held blank cells.old to → Held blank cells.new from }
 {
     if from <= to && to <= cells.len() {
-        wipe(&mut cells[0..to], from, blank);
+        wipe(&mut cells[..to], from, blank);
     }
 }
+
+/// Why a record was not put into a strip: every place is in use.
+#[derive(Debug, Clone, Copy, PartialEq, Eq)]
+pub struct Full;
 
 /// A lent slice of records, of which the first `count` are in use.
 #[derive(Drop)]
@@ -95,11 +79,7 @@ impl<'a, T: Copy> Strip<'a, T> {
     pub fn items(&self) -> &[T]
         ensures { result.now ≡ used self.now.cells.now self.now.count }
     {
-        if self.count < self.places() {
-            &self.cells[0..self.count]
-        } else {
-            self.cells
-        }
+        self.cells.get(..self.count).unwrap_or(self.cells)
     }
 
     /// How many places there are, used and blank.
@@ -110,22 +90,22 @@ impl<'a, T: Copy> Strip<'a, T> {
     }
 
     /// Puts a record after those in use; refuses, and changes nothing, where no place is left.
-    pub fn push(&mut self, x: T) -> bool
-        ensures answer { result ≡ nat_lt self.old.count (length self.old.cells.now) }
+    pub fn push(&mut self, x: T) -> Result<(), Full>
+        ensures answer { is_ok result ≡ nat_lt self.old.count (length self.old.cells.now) }
         ensures cells { self.new.cells.now ≡ slice_set self.old.cells.now self.old.count x }
-        ensures count { self.new.count ≡ (if result then self.old.count + 1 else self.old.count) }
+        ensures count { self.new.count ≡ (if is_ok result then self.old.count + 1 else self.old.count) }
         ensures places { length self.new.cells.now ≡ length self.old.cells.now }
-        ensures items { result ≡ true → used self.new.cells.now self.new.count ≡ used self.old.cells.now self.old.count ++ x ∷ [] }
-        ensures refused { result ≡ false → (self.new.cells.now ≡ self.old.cells.now) × (self.new.count ≡ self.old.count) }
+        ensures items { OnOk result (used self.new.cells.now self.new.count ≡ used self.old.cells.now self.old.count ++ x ∷ []) }
+        ensures refused { OnErr result ((self.new.cells.now ≡ self.old.cells.now) × (self.new.count ≡ self.old.count)) }
         ensures same { self.new.cells.ghost_name ≡ self.old.cells.ghost_name }
         ensures held { (b : T) → Held b self.old.cells.now self.old.count → Held b self.new.cells.now self.new.count }
     {
-        let count = self.count;
-        let pushed = append(self.cells, count, x);
-        if pushed {
-            self.count = count + 1;
+        if self.count >= self.places() {
+            return Err(Full);
         }
-        pushed
+        self.cells[self.count] = x;
+        self.count += 1;
+        Ok(())
     }
 
     /// Cuts the records in use to the first `count`, and makes the places of the others blank.
@@ -138,9 +118,8 @@ impl<'a, T: Copy> Strip<'a, T> {
         ensures same { self.new.cells.ghost_name ≡ self.old.cells.ghost_name }
         ensures held { Held blank self.old.cells.now self.old.count → Held blank self.new.cells.now self.new.count }
     {
-        let used = self.count;
-        let left = count.min(used);
-        cut(self.cells, left, used, blank);
+        let left = count.min(self.count);
+        cut(self.cells, left, self.count, blank);
         self.count = left;
     }
 }

@@ -1,7 +1,7 @@
 -- What a list of entries holds, read by places: a place whose keys before it are smaller decides what is held, and what is held stands at some place.
-use Rattle.std.proofs.Common.{◌≡◌, ℕ, zero, suc, ◌<◌, Bool, ◌&&◌, eqb, ◌⊎◌, List, [], ◌∷◌, length, get_or, sym, refl, ap, ◌∙◌, subst, ap₂, inl, inr, ⊎_elim, arith}
-use Rattle.std.proofs.lemmas.List.{get_or_past, get_or_default}
-use Rattle.std.proofs.lemmas.Bool.{cases_Bool, cases_lt, cond-true, cond-false, and_from, and_parts, eq-eqb, eqb-true, both_ways}
+use Rattle.std.proofs.Common.{◌≡◌, ℕ, zero, suc, ◌<◌, Bool, ◌&&◌, eqb, ◌⊎◌, List, [], ◌∷◌, length, get_or, sym, refl, ◌∙◌, subst, ap₂, inl, inr, ⊎_elim, arith}
+use Rattle.std.proofs.lemmas.List.{get_or_default}
+use Rattle.std.proofs.lemmas.Bool.{cases_Bool, cases_lt, cond-true, cond-false, and_from, and_parts, eq-eqb, eqb-true}
 use Rattle.theory.specs.declared.Entry.{Entry}
 use Rattle.theory.specs.Measures.{Meaning}
 use Rattle.theory.specs.Tables.{held, entry}
@@ -94,25 +94,13 @@ module _ {V : Type 0} (m : Meaning V) where
       (cases_lt i r)))
       (held_found es u v)
 
-  -- a search by the key k of u → v reads e, with that entry at the value none past the end: what e alone holds is what the list holds
-  pub held_by_search : (es : List (Entry V)) → Rising key_of es → (u v k r : ℕ) → k ≡ key u v → FirstAt es k r → (x : V) → x ≡ m.none → (e : Entry V) → e ≡ get_or es r (entry u v x) → held m (e ∷ []) u v ≡ held m es u v
-  held_by_search es rises u v k r is_key first x is_none e read =
-      let P : ℕ → Type 0 = λ n. FirstAt es n r in
-      let nothing = held_none es rises u v r (subst P is_key first) in
-      let d = entry u v x in
-      ⊎_elim
-      (λ t.
-      let two = and_parts (eqb e.from u) (eqb e.to v) t in
-      cond-true (is_pair e u v) e.value m.none t
-      ∙ ⊎_elim
-      (λ l. ap (λ (y : Entry V). y.value) read
-      ∙ sym (held_at es rises r d u v l (ap (λ (y : Entry V). y.from) (sym read) ∙ eqb-true e.from u two.0) (ap (λ (y : Entry V). y.to) (sym read) ∙ eqb-true e.to v two.1)))
-      (λ l. ap (λ (y : Entry V). y.value) (read ∙ get_or_past es r d l) ∙ is_none ∙ sym (nothing (λ _ h _ _. omega arith)))
-      (cases_lt r (length es)))
-      (λ t.
-      cond-false (is_pair e u v) e.value m.none t
-      ∙ sym (nothing (λ c h p q.
-      let same : e ≡ get_or es r c = read ∙ get_or_default es r d c h in
-      both_ways (is_pair e u v) t
-      (and_from (eqb e.from u) (eqb e.to v) (eq-eqb e.from u (ap (λ (y : Entry V). y.from) same ∙ p)) (eq-eqb e.to v (ap (λ (y : Entry V). y.to) same ∙ q))))))
-      (cases_Bool (is_pair e u v))
+  -- in a list whose keys rise the entry at a place holds what is held of its pair
+  pub held_by_place : (es : List (Entry V)) → Rising key_of es → (e : Entry V) (r : ℕ) → r < length es → ((d : Entry V) → e ≡ get_or es r d) → e.value ≡ held m es e.from e.to
+  held_by_place es rises e r h read =
+      let P : Entry V → Type 0 = λ x. x.value ≡ held m es x.from x.to in
+      subst P (sym (read e)) (sym (held_at es rises r e (get_or es r e).from (get_or es r e).to h refl refl))
+
+  -- without the entry u → v at the place that the search gives for its key, none is held
+  pub held_nowhere : (es : List (Entry V)) → Rising key_of es → (u v k r : ℕ) → k ≡ key u v → FirstAt es k r → ((e : Entry V) → r < length es → e ≡ get_or es r e → e.from ≡ u → e.to ≡ v → ⊥) → held m es u v ≡ m.none
+  held_nowhere es rises u v k r is_key first other =
+      held_none es rises u v r (subst (λ n. FirstAt es n r) is_key first) (λ d h p q. other (get_or es r d) h (sym (get_or_default es r _ d h)) p q)

@@ -1,150 +1,194 @@
--- The walk over two sorted lists, step by step: a place that is passed can match no place that is still ahead.
-use Rattle.std.proofs.Common.{◌≡◌, ℕ, ◌+◌, ◌<◌, ◌≤◌, ◌⊎◌, List, length, get_or, sym, refl, ap, ◌∙◌, subst, inl, inr, ⊎_elim, arith}
-use Rattle.std.proofs.lemmas.List.{get_or_read}
-use Rattle.std.proofs.lemmas.Bool.{cases_lt}
+-- The walk over two lists, front by front: what it gives of the entries still ahead, it gives of all.
+use Rattle.std.proofs.Common.{◌≡◌, ℕ, zero, suc, ◌-◌, ◌<◌, ◌≤◌, ◌⊎◌, List, [], ◌∷◌, length, get_or, take, drop, ◌≢◌, sym, refl, ap, ◌∙◌, subst, inl, inr, ⊎_elim, arith}
+use Rattle.std.proofs.lemmas.List.{take_all}
 use Rattle.theory.specs.declared.Entry.{Entry}
-use Rattle.theory.specs.Measures.{Meaning, Lawful, Value, pick, NoWorse}
+use Rattle.theory.specs.Measures.{Meaning, Lawful, Value, NotWorse, pick, NoWorse}
 use Rattle.tables.specs.Places.{Rising}
-use Rattle.tables.specs.Walks.{Match, join_at, Attained, Walkable, Walked}
+use Rattle.tables.specs.Walks.{Values, Match, join_at, Walkable, Walked}
 use Rattle.theory.proofs.Orders as orders
 
--- r is the best of the start value and the joins of all matches with a place before i or before j
-pub record WalkedTo {V : Type 0} (m : Meaning V) (outs ins : List (Entry V)) (start : V) (i j : ℕ) (r : V) : Type 0 where
-  pub than_start : NoWorse m r start
-  pub than_joins : (p q : ℕ) (d : Entry V) → (p < i) ⊎ (q < j) → Match outs ins p q → NoWorse m r (join_at m outs ins p q d)
-  pub attained : Attained m outs ins start r
+-- a walk over outs and ins from x goes on as one over outs' and ins' from x'
+pub record GoesOn {V : Type 0} (m : Meaning V) (outs ins : List (Entry V)) (x : V) (outs' ins' : List (Entry V)) (x' : V) : Type 0 where
+  pub can : Walkable m outs ins x → Walkable m outs' ins' x'
+  pub gives : Walkable m outs ins x → (r : V) → Walked m outs' ins' x' r → Walked m outs ins x r
 
--- a place from i on is i, or its number is larger
-ahead : {V : Type 0} (part : Entry V → ℕ) (es : List (Entry V)) → Rising part es → (i p : ℕ) (d : Entry V) → i ≤ p → p < length es → (p ≡ i) ⊎ (part (get_or es i d) < part (get_or es p d))
-ahead part es rises i p d le h = ⊎_elim (λ l. inr (rises i p d l h)) (λ l. inl (omega arith)) (cases_lt i p)
+-- a list that has a front is that front and the rest
+pub front_and_rest : {V : Type 0} (es : List (Entry V)) (e : Entry V) → 0 < length es → e ≡ get_or es 0 e → es ≡ e ∷ take (length es - 1) (drop 1 es)
+front_and_rest [] e h read = absurd (omega arith)
+front_and_rest (x ∷ es) e h read = let n : suc (length es) - 1 ≡ length es = omega arith in rw (n, take_all (length es) es (omega arith)) (ap (λ y. y ∷ es) (sym read))
 
-module _ {V : Type 0} {m : Meaning V} (laws : Lawful m) (outs ins : List (Entry V)) (start : V) (can : Walkable m outs ins start) where
-  pub walked_none : WalkedTo m outs ins start 0 0 start
-  walked_none = record {
-    than_start = orders.reflexive m laws start can.start_is_value;
-    than_joins = λ p q d near at. absurd (⊎_elim (λ l. omega arith) (λ l. omega arith) near);
-    attained = inl refl;
+-- places behind the front of a list of values that rise
+module _ {V : Type 0} (m : Meaning V) (number : Entry V → ℕ) (e : Entry V) (es : List (Entry V)) where
+  rest_values : Values m (e ∷ es) → Values m es
+  rest_values values i d h = values (suc i) d (omega arith)
+
+  rest_rises : Rising number (e ∷ es) → Rising number es
+  rest_rises rises i j d l h = rises (suc i) (suc j) d (omega arith) (omega arith)
+
+  front_least : Rising number (e ∷ es) → (p : ℕ) (d : Entry V) → p < length es → number e < number (get_or es p d)
+  front_least rises p d h = rises 0 (suc p) d (omega arith) (omega arith)
+
+module _ {V : Type 0} {m : Meaning V} where
+  pub on_and_on : {outs ins outs' ins' outs'' ins'' : List (Entry V)} {x x' x'' : V} → GoesOn m outs ins x outs' ins' x' → GoesOn m outs' ins' x' outs'' ins'' x'' → GoesOn m outs ins x outs'' ins'' x''
+  on_and_on a b = record {
+    can = λ can. b.can (a.can can);
+    gives = λ can r walked. a.gives can r (b.gives (a.can can) r walked);
   }
 
-  pub walked_all : (i j : ℕ) (r : V) → (length outs ≤ i) ⊎ (length ins ≤ j) → WalkedTo m outs ins start i j r → Walked m outs ins start r
-  walked_all i j r end h = record {
-    is_value = h.than_start.left;
-    not_worse_than_start = h.than_start.order;
-    not_worse = λ p q d at.
-        let a = at.out_within in
-        let b = at.in_within in
-        (h.than_joins p q d (⊎_elim (λ l. inl (omega arith)) (λ l. inr (omega arith)) end) at).order;
-    attained = h.attained;
-  }
-
-  -- on to the places k and l with a value that is not worse, once the matches of i and j that are passed are looked at
-  walked_on : (i j k l : ℕ) (r x : V) → WalkedTo m outs ins start i j r → NoWorse m x r → Attained m outs ins start x → ((p q : ℕ) (d : Entry V) → i ≤ p → j ≤ q → (p < k) ⊎ (q < l) → Match outs ins p q → NoWorse m x (join_at m outs ins p q d)) → WalkedTo m outs ins start k l x
-  walked_on i j k l r x was better one_of_lem more = record {
-    than_start = orders.trans m laws better was.than_start;
-    than_joins = λ p q d near at.
-        ⊎_elim
-        (λ a. orders.trans m laws better (was.than_joins p q d (inl a) at))
-        (λ a. ⊎_elim
-        (λ b. orders.trans m laws better (was.than_joins p q d (inr b) at))
-        (λ b. more p q d a b near at)
-        (cases_lt q j))
-        (cases_lt p i);
-    attained = one_of_lem;
-  }
-
-  module _ (i j : ℕ) (r : V) (was : WalkedTo m outs ins start i j r) (front back : Entry V) (i_within : i < length outs) (j_within : j < length ins) (front_read : front ≡ get_or outs i front) (back_read : back ≡ get_or ins j back) where
-    front_at : (d : Entry V) → front ≡ get_or outs i d
-    front_at d = get_or_read outs i front i_within front_read d
-
-    back_at : (d : Entry V) → back ≡ get_or ins j d
-    back_at d = get_or_read ins j back j_within back_read d
-
-    kept_value : NoWorse m r r
-    kept_value = orders.reflexive m laws r was.than_start.left
-
-    -- where the places ahead lie, in sheets
-    apart : (p q : ℕ) (d : Entry V) → i ≤ p → j ≤ q → Match outs ins p q → ((p ≡ i) ⊎ (front.to < (get_or outs p d).to)) × ((q ≡ j) ⊎ (back.from < (get_or ins q d).from))
-    apart p q d a b at =
-        let P : Entry V → Type 0 = λ e. (p ≡ i) ⊎ (e.to < (get_or outs p d).to) in
-        let Q : Entry V → Type 0 = λ e. (q ≡ j) ⊎ (e.from < (get_or ins q d).from) in (
-          subst P (sym (front_at d)) (ahead (λ e. e.to) outs can.outs_rise i p d a at.out_within),
-          subst Q (sym (back_at d)) (ahead (λ e. e.from) ins can.ins_rise j q d b at.in_within),
-        )
-
-    at_front : (p : ℕ) (d : Entry V) → p ≡ i → get_or outs p d ≡ front
-    at_front p d e = ap (λ n. get_or outs n d) e ∙ sym (front_at d)
-
-    at_back : (q : ℕ) (d : Entry V) → q ≡ j → get_or ins q d ≡ back
-    at_back q d e = ap (λ n. get_or ins n d) e ∙ sym (back_at d)
-
-    pub walked_past_out : front.to < back.from → WalkedTo m outs ins start (i + 1) j r
-    walked_past_out less =
-        walked_on i j (i + 1) j r r was kept_value was.attained
-        (λ p q d a b near at.
-        let here : (get_or outs p d).to ≡ front.to = ap (λ (e : Entry V). e.to) (at_front p d (⊎_elim (λ l. omega arith) (λ l. absurd (omega arith)) near)) in
-        let meets = at.meets d in
-        absurd (⊎_elim
-        (λ e. let there : (get_or ins q d).from ≡ back.from = ap (λ (x : Entry V). x.from) (at_back q d e) in omega arith)
-        (λ l. omega arith)
-        (apart p q d a b at).1))
-
-    pub walked_past_in : back.from < front.to → WalkedTo m outs ins start i (j + 1) r
-    walked_past_in less =
-        walked_on i j i (j + 1) r r was kept_value was.attained
-        (λ p q d a b near at.
-        let there : (get_or ins q d).from ≡ back.from = ap (λ (e : Entry V). e.from) (at_back q d (⊎_elim (λ l. absurd (omega arith)) (λ l. omega arith) near)) in
-        let meets = at.meets d in
-        absurd (⊎_elim
-        (λ e. let here : (get_or outs p d).to ≡ front.to = ap (λ (x : Entry V). x.to) (at_front p d e) in omega arith)
-        (λ l. omega arith)
-        (apart p q d a b at).0))
-
-    front_back_match : front.to ≡ back.from → Match outs ins i j
-    front_back_match same = record {
-      out_within = i_within;
-      in_within = j_within;
-      meets = λ d. ap (λ (e : Entry V). e.to) (sym (front_at d)) ∙ same ∙ ap (λ (e : Entry V). e.from) (back_at d);
+  module _ (laws : Lawful m) where
+    -- without an entry on one side there is no match
+    pub walked_none : (outs ins : List (Entry V)) (x : V) → (length outs ≡ 0) ⊎ (length ins ≡ 0) → Walkable m outs ins x → Walked m outs ins x x
+    walked_none outs ins x none can = record {
+      is_value = can.start_is_value;
+      not_worse_than_start = (orders.reflexive m laws x can.start_is_value).order;
+      not_worse = λ p q d at.
+          let a = at.out_within in
+          let b = at.in_within in
+          absurd (⊎_elim (λ e. omega arith) (λ e. omega arith) none);
+      attained = inl refl;
     }
 
-    join_is : (p q : ℕ) (d : Entry V) → p ≡ i → q ≡ j → m.join front.value back.value ≡ join_at m outs ins p q d
-    join_is p q d e f = λ k. m.join (sym (at_front p d e) k).value (sym (at_back q d f) k).value
+    -- the front of each list, and the rest
+    module _ (f b : Entry V) (fs bs : List (Entry V)) (x : V) where
+      out_walkable : Walkable m (f ∷ fs) (b ∷ bs) x → Walkable m fs (b ∷ bs) x
+      out_walkable can = record {
+        start_is_value = can.start_is_value;
+        outs_are_values = rest_values m (λ e. e.to) f fs can.outs_are_values;
+        ins_are_values = can.ins_are_values;
+        outs_rise = rest_rises m (λ e. e.to) f fs can.outs_rise;
+        ins_rise = can.ins_rise;
+      }
 
-    join_value : Value m (m.join front.value back.value)
-    join_value =
-        let P : Entry V → Type 0 = λ e. Value m e.value in
-        laws.join_is_value front.value back.value
-        (subst P (sym front_read) (can.outs_are_values i front i_within))
-        (subst P (sym back_read) (can.ins_are_values j back j_within))
+      in_walkable : Walkable m (f ∷ fs) (b ∷ bs) x → Walkable m (f ∷ fs) bs x
+      in_walkable can = record {
+        start_is_value = can.start_is_value;
+        outs_are_values = can.outs_are_values;
+        ins_are_values = rest_values m (λ e. e.from) b bs can.ins_are_values;
+        outs_rise = can.outs_rise;
+        ins_rise = rest_rises m (λ e. e.from) b bs can.ins_rise;
+      }
 
-    pub walked_past_both : front.to ≡ back.from → (y : V) → y ≡ pick m r (m.join front.value back.value) → WalkedTo m outs ins start (i + 1) (j + 1) y
-    walked_past_both same y is-pick =
-        let x = m.join front.value back.value in
-        let r_value = was.than_start.left in
-        let P : V → Type 0 = λ z. NoWorse m z r in
-        let Q : V → Type 0 = λ z. NoWorse m z x in
-        let than_r = subst P (sym is-pick) (orders.pick_left m laws r x r_value join_value) in
-        let than_x = subst Q (sym is-pick) (orders.pick_right m laws r x r_value join_value) in
-        walked_on i j (i + 1) (j + 1) r y was than_r
-        (⊎_elim
-        (λ e. ⊎_elim (λ s. inl (is-pick ∙ e ∙ s)) (λ s. inr (s.0, s.1, s.2, λ d. is-pick ∙ e ∙ s.3 d)) was.attained)
-        (λ e. inr (i, j, front_back_match same, λ d. is-pick ∙ e ∙ join_is i j d refl refl))
-        (orders.pick_either m laws r x))
-        (λ p q d a b near at.
-        let lie = apart p q d a b at in
-        let meets = at.meets d in
-        let R : V → Type 0 = λ z. NoWorse m y z in
-        let here : p ≡ i → (get_or outs p d).to ≡ front.to = λ e. ap (λ (z : Entry V). z.to) (at_front p d e) in
-        let there : q ≡ j → (get_or ins q d).from ≡ back.from = λ e. ap (λ (z : Entry V). z.from) (at_back q d e) in
-        ⊎_elim
-        (λ e. ⊎_elim
-        (λ f. subst R (join_is p q d e f) than_x)
-        (λ l. let h = here e in absurd (omega arith))
-        lie.1)
-        (λ l. ⊎_elim
-        (λ f. let t = there f in absurd (omega arith))
-        (λ k. absurd (⊎_elim
-        (λ n. let h = here (omega arith) in omega arith)
-        (λ n. let t = there (omega arith) in omega arith)
-        near))
-        lie.1)
-        lie.0)
+      module _ (can : Walkable m (f ∷ fs) (b ∷ bs) x) where
+        -- an out entry below the first in entry meets none, and the other way round
+        no_in : f.to < b.from → (q : ℕ) → Match (f ∷ fs) (b ∷ bs) 0 q → ⊥
+        no_in less zero at = let meets = at.meets f in omega arith
+        no_in less (suc q) at =
+            let h = at.in_within in
+            let least = front_least m (λ e. e.from) b bs can.ins_rise q f (omega arith) in
+            let meets = at.meets f in
+            omega arith
+
+        no_out : b.from < f.to → (p : ℕ) → Match (f ∷ fs) (b ∷ bs) p 0 → ⊥
+        no_out less zero at = let meets = at.meets f in omega arith
+        no_out less (suc p) at =
+            let h = at.out_within in
+            let least = front_least m (λ e. e.to) f fs can.outs_rise p f (omega arith) in
+            let meets = at.meets f in
+            omega arith
+
+        past_out_gives : f.to < b.from → (r : V) → Walked m fs (b ∷ bs) x r → (p q : ℕ) (d : Entry V) → Match (f ∷ fs) (b ∷ bs) p q → NotWorse m r (join_at m (f ∷ fs) (b ∷ bs) p q d)
+        past_out_gives less r walked zero q d at = absurd (no_in less q at)
+        past_out_gives less r walked (suc p) q d at =
+            let h = at.out_within in
+            walked.not_worse p q d (record { out_within = omega arith; in_within = at.in_within; meets = at.meets })
+
+        past_in_gives : b.from < f.to → (r : V) → Walked m (f ∷ fs) bs x r → (p q : ℕ) (d : Entry V) → Match (f ∷ fs) (b ∷ bs) p q → NotWorse m r (join_at m (f ∷ fs) (b ∷ bs) p q d)
+        past_in_gives less r walked p zero d at = absurd (no_out less p at)
+        past_in_gives less r walked p (suc q) d at =
+            let h = at.in_within in
+            walked.not_worse p q d (record { out_within = at.out_within; in_within = omega arith; meets = at.meets })
+
+        -- the fronts meet, and y is the better of x and their join
+        past_both_gives : f.to ≡ b.from → (y r : V) → NoWorse m y (m.join f.value b.value) → Walked m fs bs y r → (p q : ℕ) (d : Entry V) → Match (f ∷ fs) (b ∷ bs) p q → NotWorse m r (join_at m (f ∷ fs) (b ∷ bs) p q d)
+        past_both_gives same y r better walked zero zero d at =
+            (orders.trans m laws (record { left = walked.is_value; right = better.left; order = walked.not_worse_than_start }) better).order
+        past_both_gives same y r better walked zero (suc q) d at =
+            let h = at.in_within in
+            let least = front_least m (λ e. e.from) b bs can.ins_rise q d (omega arith) in
+            let meets = at.meets d in
+            absurd (omega arith)
+        past_both_gives same y r better walked (suc p) zero d at =
+            let h = at.out_within in
+            let least = front_least m (λ e. e.to) f fs can.outs_rise p d (omega arith) in
+            let meets = at.meets d in
+            absurd (omega arith)
+        past_both_gives same y r better walked (suc p) (suc q) d at =
+            let h = at.out_within in
+            let k = at.in_within in
+            walked.not_worse p q d (record { out_within = omega arith; in_within = omega arith; meets = at.meets })
+
+        join_value : Value m (m.join f.value b.value)
+        join_value = laws.join_is_value _ _ (can.outs_are_values 0 f (omega arith)) (can.ins_are_values 0 b (omega arith))
+
+      fronts_past_out : f.to < b.from → GoesOn m (f ∷ fs) (b ∷ bs) x fs (b ∷ bs) x
+      fronts_past_out less = record {
+        can = out_walkable;
+        gives = λ can r walked. record {
+          is_value = walked.is_value;
+          not_worse_than_start = walked.not_worse_than_start;
+          not_worse = past_out_gives can less r walked;
+          attained = ⊎_elim
+              inl
+              (λ a. let at = a.2 in let h = at.out_within in inr (suc a.0, a.1, record { out_within = omega arith; in_within = at.in_within; meets = at.meets }, a.3))
+              walked.attained;
+        };
+      }
+
+      fronts_past_in : b.from < f.to → GoesOn m (f ∷ fs) (b ∷ bs) x (f ∷ fs) bs x
+      fronts_past_in less = record {
+        can = in_walkable;
+        gives = λ can r walked. record {
+          is_value = walked.is_value;
+          not_worse_than_start = walked.not_worse_than_start;
+          not_worse = past_in_gives can less r walked;
+          attained = ⊎_elim
+              inl
+              (λ a. let at = a.2 in let h = at.in_within in inr (a.0, suc a.1, record { out_within = at.out_within; in_within = omega arith; meets = at.meets }, a.3))
+              walked.attained;
+        };
+      }
+
+      fronts_past_both : f.to ≡ b.from → (y : V) → y ≡ pick m x (m.join f.value b.value) → GoesOn m (f ∷ fs) (b ∷ bs) x fs bs y
+      fronts_past_both same y is_pick =
+          let join = m.join f.value b.value in
+          let than_x : Walkable m (f ∷ fs) (b ∷ bs) x → NoWorse m y x = λ can. subst (λ z. NoWorse m z x) (sym is_pick) (orders.pick_left m laws x join can.start_is_value (join_value can)) in
+          let than_join : Walkable m (f ∷ fs) (b ∷ bs) x → NoWorse m y join = λ can. subst (λ z. NoWorse m z join) (sym is_pick) (orders.pick_right m laws x join can.start_is_value (join_value can)) in
+          record {
+            can = λ can. record {
+              start_is_value = (than_x can).left;
+              outs_are_values = (out_walkable can).outs_are_values;
+              ins_are_values = (in_walkable can).ins_are_values;
+              outs_rise = (out_walkable can).outs_rise;
+              ins_rise = (in_walkable can).ins_rise;
+            };
+            gives = λ can r walked. record {
+              is_value = walked.is_value;
+              not_worse_than_start = (orders.trans m laws (record { left = walked.is_value; right = (than_x can).left; order = walked.not_worse_than_start }) (than_x can)).order;
+              not_worse = past_both_gives can same y r (than_join can) walked;
+              attained = ⊎_elim
+                  (λ e. ⊎_elim
+                  (λ k. inl (e ∙ is_pick ∙ k))
+                  (λ k. inr (0, 0, record { out_within = omega arith; in_within = omega arith; meets = λ d. same }, λ d. e ∙ is_pick ∙ k))
+                  (orders.pick_either m laws x join))
+                  (λ a.
+                  let at = a.2 in
+                  let h = at.out_within in
+                  let k = at.in_within in
+                  inr (suc a.0, suc a.1, record { out_within = omega arith; in_within = omega arith; meets = at.meets }, a.3))
+                  walked.attained;
+            };
+          }
+
+    -- a turn of the walk: the better of the best so far and the join of the fronts where these meet, and past each front that is not ahead of the other
+    module _ {outs ins fs bs : List (Entry V)} {f b : Entry V} (out_is : outs ≡ f ∷ fs) (in_is : ins ≡ b ∷ bs) (x y : V) (outs' ins' : List (Entry V)) where
+      pub turn : ((f.to ≡ b.from) × (y ≡ pick m x (m.join f.value b.value))) ⊎ ((f.to ≢ b.from) × (y ≡ x))
+          → ((f.to ≤ b.from) × (outs' ≡ fs)) ⊎ ((b.from < f.to) × (outs' ≡ outs))
+          → ((b.from ≤ f.to) × (ins' ≡ bs)) ⊎ ((f.to < b.from) × (ins' ≡ ins))
+          → GoesOn m outs ins x outs' ins' y
+      turn (inl best) (inl out) (inl into) = rw (out.1, into.1, out_is, in_is) (fronts_past_both f b fs bs x best.0 y best.1)
+      turn (inr best) (inl out) (inl into) = absurd (best.0 (omega arith))
+      turn (inr best) (inl out) (inr into) = rw (best.1, out.1, into.1, out_is, in_is) (fronts_past_out f b fs bs x into.0)
+      turn (inr best) (inr out) (inl into) = rw (best.1, out.1, into.1, out_is, in_is) (fronts_past_in f b fs bs x out.0)
+      turn (inl best) (inl out) (inr into) = absurd (omega arith)
+      turn (inl best) (inr out) into = absurd (omega arith)
+      turn (inr best) (inr out) (inr into) = absurd (omega arith)

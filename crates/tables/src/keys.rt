@@ -1,9 +1,11 @@
-// Keys of entries, binary search by key, and the parts of a table that lie between two keys.
-ghost use Rattle.std.specs.Prelude.{◌≡◌, ℕ, ◌+◌, ◌*◌, ◌≤◌, length};
+// Keys of entries, binary search by key, and the list of a sheet, which lies between two keys.
+ghost use Rattle.std.specs.Prelude.{◌≡◌, ◌≤◌, length};
 ghost use Rattle.theory.specs.Order.{key as key_spec, key_of};
 ghost use Rattle.tables.specs.Places.{Rising, FirstAt, Part};
+ghost use Rattle.tables.specs.SheetLists.{list_begin, list_end};
 
-use theory::Entry;
+use strips::part;
+use theory::{Entry, Way};
 
 /// How far apart the keys of a sheet and of the next one begin.
 const JUNIOR_STEP: u64 = 131072;
@@ -27,45 +29,18 @@ pub fn first_at<M: Copy>(table: &[Entry<M>], wanted: u64) -> usize
     ensures within { result ≤ length table.now }
     ensures first { Rising key_of table.now → FirstAt table.now wanted result }
 {
-    let mut low = 0;
-    let mut high = table.len();
-    while low < high {
-        let middle = low + (high - low) / 2;
-        let entry = table[middle];
-        if key(entry.from, entry.to) < wanted {
-            low = middle + 1;
-        } else {
-            high = middle;
-        }
-    }
-    low
+    table.partition_point(|entry| key(entry.from, entry.to) < wanted)
 }
 
-/// The entries whose keys are not below `low` and below `high`.
-fn part<M: Copy>(table: &[Entry<M>], low: u64, high: u64) -> &[Entry<M>]
-    ensures { Rising key_of table.now → low ≤ high → Part table.now low high result.now }
+/// The list of a sheet: its entries that lead out to sheets senior to it, or those that lead in from there.
+pub fn list_of<M: Copy>(table: &[Entry<M>], way: Way, sheet: u16) -> &[Entry<M>]
+    ensures { Rising key_of table.now → Part table.now (list_begin way sheet) (list_end way sheet) result.now }
 {
-    let first = first_at(table, low);
-    let last = first_at(table, high);
-    if first <= last {
-        &table[first..last]
-    } else {
-        &table[0..0]
-    }
-}
-
-/// The out entries of `sheet`.
-pub fn outs_of<M: Copy>(table: &[Entry<M>], sheet: u16) -> &[Entry<M>]
-    ensures { Rising key_of table.now → Part table.now (sheet * 131072) (sheet * 131072 + 65536) result.now }
-{
-    let begin = sheet as u64 * JUNIOR_STEP;
-    part(table, begin, begin + IN_STEP)
-}
-
-/// The in entries of `sheet`.
-pub fn ins_of<M: Copy>(table: &[Entry<M>], sheet: u16) -> &[Entry<M>]
-    ensures { Rising key_of table.now → Part table.now (sheet * 131072 + 65536) (sheet * 131072 + 131072) result.now }
-{
-    let begin = sheet as u64 * JUNIOR_STEP;
-    part(table, begin + IN_STEP, begin + JUNIOR_STEP)
+    let outs = sheet as u64 * JUNIOR_STEP;
+    let ins = outs + IN_STEP;
+    let (begin, end) = match way {
+        Way::Out => (outs, ins),
+        Way::In => (ins, outs + JUNIOR_STEP),
+    };
+    part(table, first_at(table, begin), first_at(table, end))
 }

@@ -1,35 +1,24 @@
 // What a table holds for a pair of sheets, and the best join of two sorted lists.
-ghost use Rattle.std.specs.Prelude.{◌≡◌, ℕ, ◌≤◌, [], ◌∷◌};
+ghost use Rattle.std.specs.Prelude.{◌≡◌, ℕ, ◌≤◌};
 ghost use Rattle.theory.specs.Measures.{pick};
 ghost use Rattle.theory.specs.Tables.{held, answer as answer_spec};
 ghost use Rattle.theory.specs.Order.{key_of, Sorted};
 ghost use Rattle.tables.specs.Places.{Rising};
 ghost use Rattle.tables.specs.Walks.{Walkable, Walked, over_seniors};
 
-use crate::keys::{first_at, ins_of, key, outs_of};
+use crate::keys::{first_at, key, list_of};
 use measures::Measure;
-use strips::at;
-use theory::Entry;
-
-/// The value of `entry` if it leads from one sheet to the other, else none.
-fn value_for<M: Measure>(entry: Entry<M>, from: u16, to: u16) -> M
-    ensures { result ≡ held M.Measure.meaning (entry ∷ []) from to }
-{
-    if entry.from == from && entry.to == to {
-        entry.value
-    } else {
-        M::none()
-    }
-}
+use theory::{Entry, Way};
 
 /// The value of the entry from one sheet to another, none without one.
 pub fn find<M: Measure>(table: &[Entry<M>], from: u16, to: u16) -> M
     ensures { Rising key_of table.now → result ≡ held M.Measure.meaning table.now from to }
 {
-    let value = M::none();
     let place = first_at(table, key(from, to));
-    let entry = at(table, place, Entry { from, to, value });
-    value_for(entry, from, to)
+    match table.get(place) {
+        Some(entry) if entry.from == from && entry.to == to => entry.value,
+        _ => M::none(),
+    }
 }
 
 /// The better of two values, the first where neither is better.
@@ -48,23 +37,22 @@ fn improved<M: Measure>(best: M, front: Entry<M>, back: Entry<M>) -> M
 
 /// The best of `start` and the joins of an out entry and an in entry that meet at a sheet.
 /// The out entries rise in the sheet where they end, the in entries in the sheet where they begin.
-pub fn walk<M: Measure>(outs: &[Entry<M>], ins: &[Entry<M>], start: M) -> M
+pub fn walk<M: Measure>(mut outs: &[Entry<M>], mut ins: &[Entry<M>], start: M) -> M
     ensures { Walkable M.Measure.meaning outs.now ins.now start → Walked M.Measure.meaning outs.now ins.now start result }
 {
     let mut best = start;
-    let mut i = 0;
-    let mut j = 0;
-    while i < outs.len() && j < ins.len() {
-        let front = outs[i];
-        let back = ins[j];
-        if front.to < back.from {
-            i += 1;
-        } else if back.from < front.to {
-            j += 1;
-        } else {
-            best = improved(best, front, back);
-            i += 1;
-            j += 1;
+    while let [front, fronts @ ..] = outs {
+        let [back, backs @ ..] = ins else {
+            return best;
+        };
+        if front.to == back.from {
+            best = improved(best, *front, *back);
+        }
+        if front.to <= back.from {
+            outs = fronts;
+        }
+        if back.from <= front.to {
+            ins = backs;
         }
     }
     best
@@ -74,7 +62,11 @@ pub fn walk<M: Measure>(outs: &[Entry<M>], ins: &[Entry<M>], start: M) -> M
 pub fn best_over_seniors<M: Measure>(table: &[Entry<M>], s: u16, t: u16) -> M
     ensures { (n : ℕ) → n ≤ 65536 → Sorted M.Measure.meaning n table.now → result ≡ over_seniors M.Measure.meaning (held M.Measure.meaning table.now) s t }
 {
-    walk(outs_of(table, s), ins_of(table, t), M::none())
+    walk(
+        list_of(table, Way::Out, s),
+        list_of(table, Way::In, t),
+        M::none(),
+    )
 }
 
 /// The answer of a table: the empty chain from a sheet to itself; else the better of the entry from `s` to `t`

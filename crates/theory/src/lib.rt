@@ -3,7 +3,7 @@
 #![tactic(auto)]
 
 /// A redraw (an edge of the graph): one sheet redrawn as another, with its minutes and its line grade.
-#[derive(Clone, Copy)]
+#[derive(Debug, Clone, Copy, PartialEq, Eq, Default)]
 pub struct Redraw {
     pub from: u16,
     pub to: u16,
@@ -12,7 +12,7 @@ pub struct Redraw {
 }
 
 /// An entry of a table (a hub label): the value of redrawing one sheet as another.
-#[derive(Clone, Copy)]
+#[derive(Debug, Clone, Copy, PartialEq, Eq)]
 pub struct Entry<V> {
     pub from: u16,
     pub to: u16,
@@ -20,7 +20,7 @@ pub struct Entry<V> {
 }
 
 /// Where a book stands: open, in rounds (so many accepted), by roots (so many done), or finished.
-#[derive(Clone, Copy)]
+#[derive(Debug, Clone, Copy, PartialEq, Eq)]
 pub enum Phase {
     Open,
     Rounds(u32),
@@ -29,41 +29,41 @@ pub enum Phase {
 }
 
 /// What a builder says of the book after its turn.
-#[derive(Clone, Copy)]
+#[derive(Debug, Clone, Copy, PartialEq, Eq)]
 pub enum Progress {
     Open,
     Finished,
 }
 
 /// A builder's answer: its number, and whether the book is finished.
-#[derive(Clone, Copy)]
+#[derive(Debug, Clone, Copy, PartialEq, Eq)]
 pub struct Built {
     pub number: u32,
     pub progress: Progress,
 }
 
 /// The way of a search from a root: out along the redraws, or in against them.
-#[derive(Clone, Copy)]
+#[derive(Debug, Clone, Copy, PartialEq, Eq)]
 pub enum Way {
     Out,
     In,
 }
 
-/// Why a call of the book is turned away. Each case has its number in specs/Refusals.antt.
-#[derive(Clone, Copy)]
+/// Why a call of the book is turned away. Each case has its number.
+#[derive(Debug, Clone, Copy, PartialEq, Eq)]
 pub enum Refusal {
-    SheetCount,
-    RegisterPlaces,
-    TablePlaces,
-    SparePlaces,
-    WorkPlaces,
-    UnknownSheet,
-    SameSheet,
-    Minutes,
-    Grade,
-    RegisterFull,
-    OtherBuilder,
-    AlreadyFinished,
-    WantOfPlaces,
-    NotFinished,
+    SheetCount = 1,
+    RegisterPlaces = 2,
+    TablePlaces = 3,
+    SparePlaces = 4,
+    WorkPlaces = 5,
+    UnknownSheet = 6,
+    SameSheet = 7,
+    Minutes = 8,
+    Grade = 9,
+    RegisterFull = 10,
+    OtherBuilder = 11,
+    AlreadyFinished = 12,
+    WantOfPlaces = 13,
+    NotFinished = 14,
 }

@@ -1,10 +1,13 @@
 -- One digit more of a word, and what a word of digits gives in the end.
-use Rattle.std.proofs.Common.{◌≡◌, ℕ, zero, suc, ◌+◌, ◌-◌, ◌*◌, ◌^◌, ◌<◌, ◌≤◌, Bool, true, false, not, ◌&&◌, eqb, leb, List, length, get_or, drop, Some, None, sym, refl, ap, ◌∙◌, pow-suc, add-one, arith}
+use Rattle.std.proofs.Common.{◌≡◌, ℕ, ◌+◌, ◌-◌, ◌*◌, ◌^◌, ◌<◌, ◌≤◌, Bool, true, false, ◌&&◌, eqb, List, [], ◌∷◌, length, get_or, drop, Some, None, Ok, Err, Result, ⊎_elim, sym, refl, ap, ◌∙◌, pow-suc, add-one, arith, false-eqb}
 use Rattle.std.specs.Char.{is_ascii_digit}
+use Rattle.std.specs.List.{list_all}
+use Rattle.std.specs.Result.{OkIff, result_ok}
 use Rattle.std.specs.Str.{all_ascii_digits}
 use Rattle.std.proofs.lemmas.List.{at_drop_more, at_drop_all}
-use Rattle.std.proofs.lemmas.Bool.{le-leb, lt-leb, ne_eqb, and_left, and_right, and_from, cond-true, cond-false}
+use Rattle.std.proofs.lemmas.Bool.{cases_lt, le-leb, lt-leb, and_left, and_right, and_from, cond-true, cond-false}
 use Rattle.words.specs.Numbers.{value, value_after, is_number, number_of}
+use Rattle.words.specs.Tokens.{only_digits}
 
 module _ (ds : List ℕ) (i : ℕ) (inside : i < length ds) where
   step : all_ascii_digits (drop i ds) ≡ (is_ascii_digit (get_or ds i 0) && all_ascii_digits (drop (i + 1) ds))
@@ -37,13 +40,23 @@ value_bound n d i h k = rw (add-one i) (omega (arith, pow-suc 10 i))
 pub number_none_digit : (ds : List ℕ) → all_ascii_digits ds ≡ false → None ≡ number_of ds
 number_none_digit ds h = sym (cond-false (is_number ds) _ _ (and_right _ _ (and_left (all_ascii_digits ds) _ h)))
 
-pub number_none_above : (ds : List ℕ) → 4294967295 < value ds → None ≡ number_of ds
+number_none_above : (ds : List ℕ) → 4294967295 < value ds → None ≡ number_of ds
 number_none_above ds h = sym (cond-false (is_number ds) _ _ (and_right _ _ (and_right (all_ascii_digits ds) _ (lt-leb _ _ h))))
 
-pub number_some : (ds : List ℕ) → 1 ≤ length ds → length ds ≤ 10 → all_ascii_digits ds ≡ true → value ds ≤ 4294967295 → Some (value ds) ≡ number_of ds
+number_some : (ds : List ℕ) → 1 ≤ length ds → length ds ≤ 10 → all_ascii_digits ds ≡ true → value ds ≤ 4294967295 → Some (value ds) ≡ number_of ds
 number_some ds a b d v = sym (cond-true (is_number ds) _ _ (and_from _ _ (and_from _ _ (le-leb _ _ a) (le-leb _ _ b)) (and_from _ _ d (le-leb _ _ v))))
 
--- digits that are all of a word make it a number unless it is empty
-pub digits_some : (n : ℕ) (all : Bool) → all ≡ true → not (eqb n 0) ≡ (leb 1 n && all)
-digits_some zero all h = refl
-digits_some (suc n) all h = simp (ne_eqb (suc n) 0 (λ e. omega arith), le-leb 1 (suc n) (omega arith), h)
+-- whether each byte is a digit, and of a word that is not empty whether it has only digits
+digits_listed : (ds : List ℕ) → list_all is_ascii_digit ds ≡ all_ascii_digits ds
+digits_listed [] = refl
+digits_listed (d ∷ ds) = ap (λ b. is_ascii_digit d && b) (digits_listed ds)
+
+pub only_listed : (ds : List ℕ) (empty : Bool) → empty ≡ false → empty ≡ eqb (length ds) 0 → list_all is_ascii_digit ds ≡ only_digits ds
+only_listed ds empty f e =
+    let some : 1 ≤ length ds = omega (arith, false-eqb (length ds) 0 (sym f ∙ e)) in
+    digits_listed ds ∙ sym (ap (λ b. b && all_ascii_digits ds) (le-leb 1 (length ds) some))
+
+-- a value that fits 32 bits is the number, and one that does not is none
+pub number_fits : {E : Type 0} (ds : List ℕ) (r : Result ℕ E) → OkIff r (value ds < 4294967296) (value ds) → 1 ≤ length ds → length ds ≤ 10 → all_ascii_digits ds ≡ true → result_ok r ≡ number_of ds
+number_fits ds (Ok n) h a b d = ap Some h.1 ∙ number_some ds a b d (omega (arith, h.0))
+number_fits ds (Err e) h a b d = ⊎_elim (λ l. absurd (h l)) (λ l. number_none_above ds (omega arith)) (cases_lt (value ds) 4294967296)

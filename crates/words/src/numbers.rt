@@ -2,10 +2,10 @@
 ghost use Rattle.std.specs.Prelude.{◌≡◌};
 ghost use Rattle.words.specs.Numbers.{number_of};
 
-// The most digits that a number may have.
+/// The most digits that a number may have.
 const MOST_DIGITS: usize = 10;
 
-// The number that the digits write: none unless there are 1 to 10 digits, and nothing else, and the number is at most 4,294,967,295.
+/// The number that the digits write: none unless there are 1 to 10 digits, and nothing else, and the number is at most 4,294,967,295.
 pub fn number(digits: &[u8]) -> Option<u32>
     ensures { result ≡ number_of digits.now }
 {
@@ -19,8 +19,5 @@ pub fn number(digits: &[u8]) -> Option<u32>
         }
         value = value * 10 + u64::from(*digit - b'0');
     }
-    if value > 4_294_967_295 {
-        return None;
-    }
-    Some(value as u32)
+    u32::try_from(value).ok()
 }

@@ -4,39 +4,28 @@ ghost use Rattle.words.specs.Tokens.{word_at, only_digits, TokenOf};
 
 use crate::split::Place;
 
-// A word: made of digits only, or any other.
-#[derive(Clone, Copy)]
+/// A word: made of digits only, or any other.
+#[derive(Clone, Copy, Debug, PartialEq, Eq)]
 pub enum Token<'a> {
     Name(&'a [u8]),
     Number(&'a [u8]),
 }
 
-// The bytes of the line at the place, or none where the place is not within the line.
+/// The bytes of the line at the place, or none where the place is not within the line.
 fn part<'a>(line: &'a [u8], place: Place) -> &'a [u8]
     ensures { result.now ≡ word_at line.now place }
 {
-    let start = place.start;
-    let end = place.end;
-    if start <= end && end <= line.len() {
-        &line[start..end]
-    } else {
-        b""
-    }
+    line.get(place.start..place.end).unwrap_or(b"")
 }
 
-// Whether there are digits in the word, and nothing else.
+/// Whether there are digits in the word, and nothing else.
 fn digits_only(word: &[u8]) -> bool
     ensures { result ≡ only_digits word.now }
 {
-    for byte in word {
-        if !byte.is_ascii_digit() {
-            return false;
-        }
-    }
-    !word.is_empty()
+    !word.is_empty() && word.iter().all(u8::is_ascii_digit)
 }
 
-// The token at the place: the empty name where the place is not within the line.
+/// The token at the place: the empty name where the place is not within the line.
 pub fn token_at<'a>(line: &'a [u8], place: Place) -> Token<'a>
     ensures { TokenOf (word_at line.now place) result }
 {

@@ -1,22 +1,26 @@
-use Rattle.std.proofs.Common.{ap}
+use Rattle.std.proofs.Common.{ℕ, List, ◌++◌, string_bytes, ap, ◌∙◌}
 use Rattle.sessions.specs.declared.lines.Lines.{Lines}
 use Rattle.sessions.specs.InputLines.{ahead}
-use Rattle.desk.proofs.Sessions.{session_none, session_served, session_on, session_shorter}
+use Rattle.answers.specs.declared.Layer.TheVariants.{Book}
+use Rattle.answers.specs.Printed.{refused_line}
+use Rattle.desk.proofs.Sessions.{where_ok, where_err, session_none, session_served, session_on, session_shorter}
 use Rattle.desk.proofs.run.run.Goals as goal
 
-pub returns-then-branch : goal.returns-then-branch
-returns-then-branch c = c.loop-out.invariant _ (session_served _ _ c.in_ok-opening.field-0 _ _ _ _ c.in_ok-opening.ensures.awaited c.in-Some.opening c.in-Some.is c.in_ok-open.field-0 c.if-branch.true _ c.in_ok-open.ensures.opened)
+pub returns-in-Ok : goal.returns-in-Ok
+returns-in-Ok c = c.loop-out.invariant _ (session_served _ _ c.in_ok-opening.field-0 _ _ _ _ c.in_ok-opening.ensures.awaited c.in-Some.opening c.in-Some.is _ (where_ok _ _ _ _ c.in-Ok.is c.in_ok-open.ensures))
 
 pub loop-out-smaller : goal.loop-out-smaller
 loop-out-smaller c =
-    let same = c.in_ok-open.ensures.waits c.if-branch.false in
-    session_shorter _ _ c.in_ok-opening.field-0 _ _ _ _ c.in_ok-opening.ensures.awaited c.in-Some.opening c.in-Some.is _ (ap (λ (x : Lines). ahead x.input.now x.place) same)
+    let tried = where_err _ _ _ _ c.in-Err.is c.in_ok-open.ensures in
+    session_shorter _ _ c.in_ok-opening.field-0 _ _ _ _ c.in_ok-opening.ensures.awaited c.in-Some.opening c.in-Some.is _ (ap (λ (x : Lines). ahead x.input.now x.place) tried.1)
 
 pub loop-out-preserved : goal.loop-out-preserved
 loop-out-preserved c after S =
-    let same = c.in_ok-open.ensures.waits c.if-branch.false in
-    c.loop-out.invariant after (session_on _ _ c.in_ok-opening.field-0 _ _ _ _ c.in_ok-opening.ensures.awaited c.in-Some.opening c.in-Some.is c.in_ok-open.field-0 c.if-branch.false _ c.in_ok-open.ensures.opened
-    _ _ (ap (λ (x : Lines). x.number) same) (ap (λ (x : Lines). ahead x.input.now x.place) same) after S)
+    let tried = where_err _ _ _ _ c.in-Err.is c.in_ok-open.ensures in
+    let line : ℕ → List ℕ = λ code. refused_line c.in-Some.opening.number Book 0 code in
+    c.loop-out.invariant after (session_on _ _ c.in_ok-opening.field-0 _ _ _ _ c.in_ok-opening.ensures.awaited c.in-Some.opening c.in-Some.is c.in-Err.refusal tried.0
+    _ (c.in_ok-refused-in-Err.ensures ∙ ap (λ s. string_bytes s ++ line c.refusal_code.result) tried.2 ∙ ap (λ k. string_bytes c.await_opening.new.out ++ line k) c.refusal_code.ensures)
+    _ _ (ap (λ (x : Lines). x.number) tried.1) (ap (λ (x : Lines). ahead x.input.now x.place) tried.1) after S)
 
 pub returns : goal.returns
 returns c = c.loop-out.invariant _ (session_none _ _ c.in_ok-opening.field-0 _ _ _ _ c.in_ok-opening.ensures.awaited c.in_default.is)

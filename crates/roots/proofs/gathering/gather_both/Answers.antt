@@ -1,44 +1,24 @@
-use Rattle.std.proofs.Common.{◌≤◌, length, sym, ◌∙◌, subst, arith}
-use Rattle.roots.specs.Turns.{BothGathered}
-use Rattle.roots.proofs.Runs.{blank_again, blank_twice, first_stops, second_stops, both_fit}
+use Rattle.std.proofs.Common.{arith}
+use Rattle.std.proofs.lemmas.Result.{err_from_is_err_and}
+use Rattle.roots.proofs.Runs.{blank_again, first_stops, second_stops, both_fit}
 use Rattle.roots.proofs.gathering.gather_both.Goals as goal
 
-pub returns-in_err-outs : goal.returns-in_err-outs
-returns-in_err-outs g c = record {
-  places = c.gather.ensures.places;
-  work = c.gather.ensures.work;
-  marks = c.gather.ensures.marks;
-  found = λ L R ew em.
-      let m = g.M.Measure.meaning in
-      subst (λ x. BothGathered m c.args.sheets c.args.register.now c.args.root c.args.spare.now x c.gather.new.spare) (sym c.from_residual.ensures)
-      (first_stops m L c.args.sheets c.args.register.now c.args.table.now c.args.root R c.args.spare.now c.gather.new.spare (c.in_err-outs.ensures.found L R ew em (omega arith)));
-}
+pub returns-in_err-gather-clause-found : goal.returns-in_err-gather-clause-found
+returns-in_err-gather-clause-found g c L R ew em z =
+    let p = err_from_is_err_and c.from_residual.result c.from_residual.ensures.1 in
+    rw p.1 (first_stops g.M.Measure.meaning L c.args.sheets c.args.register.now c.args.table.now c.args.root R c.args.spare.now c.gather.new.spare z (c.in_err-gather.ensures.found L R ew em (omega arith)))
 
-pub returns-in_err-ins : goal.returns-in_err-ins
-returns-in_err-ins g c =
+pub returns-in_err-gather-2-clause-found : goal.returns-in_err-gather-2-clause-found
+returns-in_err-gather-2-clause-found g c L R ew em z =
     let m = g.M.Measure.meaning in
-    record {
-      places = c.gather-2.ensures.places ∙ c.gather.ensures.places;
-      work = blank_twice c.args.work.now c.gather.new.work c.gather-2.new.work m.none c.gather.ensures.work c.gather-2.ensures.work;
-      marks = blank_twice c.args.marks.now c.gather.new.marks c.gather-2.new.marks 0 c.gather.ensures.marks c.gather-2.ensures.marks;
-      found = λ L R ew em.
-          let o = c.in_ok-outs.ensures.found L R ew em (omega arith) in
-          let k : c.in_ok-outs.outs ≤ length c.gather.new.spare = omega (arith, o.2.1, c.gather.ensures.places) in
-          let i = c.in_err-ins.ensures.found L R (blank_again c.args.work.now c.gather.new.work c.args.sheets m.none ew c.gather.ensures.work) (blank_again c.args.marks.now c.gather.new.marks c.args.sheets 0 em c.gather.ensures.marks) k in
-          subst (λ x. BothGathered m c.args.sheets c.args.register.now c.args.root c.args.spare.now x c.gather-2.new.spare) (sym c.from_residual-in_err-ins.ensures)
-          (second_stops m L c.args.sheets c.args.register.now c.args.table.now c.args.root R c.args.spare.now c.gather.new.spare c.gather-2.new.spare c.in_ok-outs.outs c.gather.ensures.places o i);
-    }
+    let p = err_from_is_err_and c.from_residual-in_err-gather-2.result c.from_residual-in_err-gather-2.ensures.1 in
+    let o = c.in_ok-gather.ensures.found L R ew em (omega arith) in
+    let i = c.in_err-gather-2.ensures.found L R (blank_again c.args.work.now c.gather.new.work c.args.sheets m.none ew c.gather.ensures.work) (blank_again c.args.marks.now c.gather.new.marks c.args.sheets 0 em c.gather.ensures.marks) (omega (arith, o.2.1, c.gather.ensures.strip.places)) in
+    rw p.1 (second_stops m L c.args.sheets c.args.register.now c.args.table.now c.args.root R c.args.spare.now c.gather.new.spare c.gather-2.new.spare z c.gather.ensures.strip o i)
 
-pub returns : goal.returns
-returns g c =
+pub returns-clause-found : goal.returns-clause-found
+returns-clause-found g c L R ew em z =
     let m = g.M.Measure.meaning in
-    record {
-      places = c.gather-2.ensures.places ∙ c.gather.ensures.places;
-      work = blank_twice c.args.work.now c.gather.new.work c.gather-2.new.work m.none c.gather.ensures.work c.gather-2.ensures.work;
-      marks = blank_twice c.args.marks.now c.gather.new.marks c.gather-2.new.marks 0 c.gather.ensures.marks c.gather-2.ensures.marks;
-      found = λ L R ew em.
-          let o = c.in_ok-outs.ensures.found L R ew em (omega arith) in
-          let k : c.in_ok-outs.outs ≤ length c.gather.new.spare = omega (arith, o.2.1, c.gather.ensures.places) in
-          let i = c.in_ok-ins.ensures.found L R (blank_again c.args.work.now c.gather.new.work c.args.sheets m.none ew c.gather.ensures.work) (blank_again c.args.marks.now c.gather.new.marks c.args.sheets 0 em c.gather.ensures.marks) k in
-          both_fit m L c.args.sheets c.args.register.now c.args.table.now c.args.root R c.args.spare.now c.gather.new.spare c.gather-2.new.spare c.in_ok-outs.outs c.in_ok-ins.ins o i;
-    }
+    let o = c.in_ok-gather.ensures.found L R ew em (omega arith) in
+    let i = c.in_ok-gather-2.ensures.found L R (blank_again c.args.work.now c.gather.new.work c.args.sheets m.none ew c.gather.ensures.work) (blank_again c.args.marks.now c.gather.new.marks c.args.sheets 0 em c.gather.ensures.marks) (omega (arith, o.2.1, c.gather.ensures.strip.places)) in
+    both_fit m L c.args.sheets c.args.register.now c.args.table.now c.args.root R c.args.spare.now c.gather.new.spare c.gather-2.new.spare z o i

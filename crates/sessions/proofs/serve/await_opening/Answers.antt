@@ -1,21 +1,11 @@
-use Rattle.std.proofs.Common.{string_bytes, ◌∙◌, subst}
-use Rattle.sessions.specs.Serving.{LineAwaited}
-use Rattle.sessions.proofs.Serving.{awaits_more, awaits_none}
+use Rattle.std.proofs.Common.{◌∙◌}
+use Rattle.sessions.proofs.Serving.{awaits_more}
 use Rattle.sessions.proofs.serve.await_opening.Goals as goal
 
 pub loop-line-preserved : goal.loop-line-preserved
 loop-line-preserved c =
-    let told = c.in-Some.ensures in (
-      told.input ∙ c.loop-line.invariant.0,
-      awaits_more c.loop-line.lines.input.now c.next.new.self.input.now c.loop-line.lines.place c.loop-line.lines.number c.in-Some.line c.next.new.self.place c.next.new.self.number told.input told.gives
-          _ _ _ (string_bytes c.loop-line.out) (string_bytes c.open_line.new.out) c.loop-line.invariant.1
-          (subst (λ found. LineAwaited c.in-Some.line.number c.in-Some.line.text.now found (string_bytes c.loop-line.out) (string_bytes c.open_line.new.out)) c.in_default-2.is c.in_ok-opening.ensures),
-    )
-
-pub returns : goal.returns
-returns c =
-    let told = c.in_default.ensures in
+    let gives = c.in-Some.ensures.steps in
     record {
-      input = told.input ∙ c.loop-line.invariant.0;
-      awaited = awaits_none c.loop-line.lines.input.now c.next.new.self.input.now c.loop-line.lines.place c.loop-line.lines.number c.next.new.self.place c.next.new.self.number told.input told.gives _ _ _ (string_bytes c.loop-line.out) c.loop-line.invariant.1;
+      same_input = gives.0 ∙ c.loop-line.invariant.same_input;
+      awaits = awaits_more gives.0 gives.1 c.loop-line.invariant.awaits (rw c.in_default-2.is at c.in_ok-opening.ensures);
     }

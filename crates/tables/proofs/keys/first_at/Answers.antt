@@ -1,18 +1,13 @@
--- one turn: the key in the middle is the one that was read
-use Rattle.std.proofs.Common.{◌+◌, ◌-◌, ◌/◌, ◌<◌, length, arith}
-use Rattle.tables.proofs.Searching.{narrowed_up, narrowed_down}
+-- the library's partition point at the keys, which rise
+use Rattle.std.proofs.Common.{ltb, rules}
+use Rattle.std.proofs.lemmas.List.Sorted.{IsPartitionPoint-from_clause, IsPartitionedBy-ltb}
+use Rattle.theory.specs.Order.{key_of}
+use Rattle.tables.proofs.Searching.{not_falling, first_from_point}
 use Rattle.tables.proofs.keys.first_at.Goals as goal
 
-pub loop-low-preserved-then-key-wanted : goal.loop-low-preserved-then-key-wanted
-loop-low-preserved-then-key-wanted g c =
-    let low = c.loop-low.low in
-    let high = c.loop-low.high in
-    let within : low + (high - low) / 2 < length c.args.table.now = omega arith in
-    (omega arith, omega arith, λ rises. narrowed_up _ _ low _ high rises (c.loop-low.invariant.2 rises) within c.index-table-middle.result c.index-table-middle.is (omega arith))
-
-pub loop-low-preserved : goal.loop-low-preserved
-loop-low-preserved g c =
-    let low = c.loop-low.low in
-    let high = c.loop-low.high in
-    let within : low + (high - low) / 2 < length c.args.table.now = omega arith in
-    (omega arith, omega arith, λ rises. narrowed_down _ _ low _ high rises (c.loop-low.invariant.2 rises) within c.index-table-middle.result c.index-table-middle.is (omega arith))
+pub returns-clause-first : goal.returns-clause-first
+returns-clause-first g c rises =
+    let es = c.args.table.now in
+    let k = c.args.wanted in
+    first_from_point es k c.partition_point.result
+    (IsPartitionPoint-from_clause (λ e. ltb (key_of e) k) es _ c.partition_point.ensures.partitioned (IsPartitionedBy-ltb key_of es k (not_falling es rises)) (λ a r q h. search rules))

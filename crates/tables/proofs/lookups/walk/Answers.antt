@@ -1,43 +1,27 @@
--- each turn passes an out entry, an in entry, or both
-use Rattle.std.proofs.Common.{inl, inr, arith}
-use Rattle.tables.proofs.Walking.{walked_none, walked_past_out, walked_past_in, walked_past_both, walked_all}
+-- each turn passes the front that is not ahead of the other, or both
+use Rattle.std.proofs.Common.{refl, ap, ◌∙◌, inl, inr, arith}
+use Rattle.tables.proofs.Walking.{on_and_on, front_and_rest, turn, walked_none}
 use Rattle.tables.proofs.lookups.walk.Goals as goal
+use Rattle.tables.proofs.lookups.walk.Goals.{then-front-back, else-front-back, then-front-back-2, else-front-back-2}
 
-pub loop-i-init : goal.loop-i-init
-loop-i-init g c = (omega arith, omega arith, λ can. walked_none g.met.M.Measure.lawful c.args.outs.now c.args.ins.now c.args.start can)
+pub loop-outs-preserved-then-back-front : goal.loop-outs-preserved-then-back-front
+loop-outs-preserved-then-back-front g c =
+    on_and_on c.loop-outs.invariant
+    (turn g.met.M.Measure.lawful (front_and_rest _ _ (omega arith) c.front-item.is) (front_and_rest _ _ (omega arith) c.back-item.is) c.loop-outs.best c.if-front-back.best _ _
+    (elim c.if-front-back.branch [ then-front-back w ↦ inl (w.if-front-back.true, w.best-is ∙ w.improved-best.ensures) | else-front-back w ↦ inr (w.if-front-back.false, w.best-is) ])
+    (elim c.if-front-back-2.branch [ then-front-back-2 w ↦ inl (omega arith, ap (λ r. r.now) w.outs-is) | else-front-back-2 w ↦ inr (omega arith, ap (λ r. r.now) w.outs-is) ])
+    (inl (omega arith, refl)))
 
-pub loop-i-preserved-then-front-back : goal.loop-i-preserved-then-front-back
-loop-i-preserved-then-front-back g c = (
-  omega arith,
-  omega arith,
-  λ can.
-      walked_past_out g.met.M.Measure.lawful c.args.outs.now c.args.ins.now c.args.start can c.loop-i.i c.loop-i.j c.loop-i.best (c.loop-i.invariant.2 can)
-      c.index-outs-i.result c.index-ins-j.result c.loop-i-test.true c.if-j-ins.true c.index-outs-i.is c.index-ins-j.is c.if-front-back.true,
-)
+pub loop-outs-preserved : goal.loop-outs-preserved
+loop-outs-preserved g c =
+    on_and_on c.loop-outs.invariant
+    (turn g.met.M.Measure.lawful (front_and_rest _ _ (omega arith) c.front-item.is) (front_and_rest _ _ (omega arith) c.back-item.is) c.loop-outs.best c.if-front-back.best _ _
+    (elim c.if-front-back.branch [ then-front-back w ↦ inl (w.if-front-back.true, w.best-is ∙ w.improved-best.ensures) | else-front-back w ↦ inr (w.if-front-back.false, w.best-is) ])
+    (elim c.if-front-back-2.branch [ then-front-back-2 w ↦ inl (omega arith, ap (λ r. r.now) w.outs-is) | else-front-back-2 w ↦ inr (omega arith, ap (λ r. r.now) w.outs-is) ])
+    (inr (c.if-back-front.false, refl)))
 
-pub loop-i-preserved-then-back-front : goal.loop-i-preserved-then-back-front
-loop-i-preserved-then-back-front g c = (
-  omega arith,
-  omega arith,
-  λ can.
-      walked_past_in g.met.M.Measure.lawful c.args.outs.now c.args.ins.now c.args.start can c.loop-i.i c.loop-i.j c.loop-i.best (c.loop-i.invariant.2 can)
-      c.index-outs-i.result c.index-ins-j.result c.loop-i-test.true c.if-j-ins.true c.index-outs-i.is c.index-ins-j.is c.if-back-front.true,
-)
+pub returns-in_default-ins : goal.returns-in_default-ins
+returns-in_default-ins g c can = c.loop-outs.invariant.gives can _ (walked_none g.met.M.Measure.lawful _ _ _ (inr (omega arith)) (c.loop-outs.invariant.can can))
 
-pub loop-i-preserved : goal.loop-i-preserved
-loop-i-preserved g c = (
-  omega arith,
-  omega arith,
-  λ can.
-      walked_past_both g.met.M.Measure.lawful c.args.outs.now c.args.ins.now c.args.start can c.loop-i.i c.loop-i.j c.loop-i.best (c.loop-i.invariant.2 can)
-      c.index-outs-i.result c.index-ins-j.result c.loop-i-test.true c.if-j-ins.true c.index-outs-i.is c.index-ins-j.is (omega arith)
-      c.improved-best.result c.improved-best.ensures,
-)
-
-pub returns-else-j-ins : goal.returns-else-j-ins
-returns-else-j-ins g c can =
-    walked_all g.met.M.Measure.lawful c.args.outs.now c.args.ins.now c.args.start can c.loop-i.i c.loop-i.j c.loop-i.best (inr c.if-j-ins.false) (c.loop-i.invariant.2 can)
-
-pub returns-after-loop-i : goal.returns-after-loop-i
-returns-after-loop-i g c can =
-    walked_all g.met.M.Measure.lawful c.args.outs.now c.args.ins.now c.args.start can c.loop-i.i c.loop-i.j c.loop-i.best (inl c.loop-i-test.false) (c.loop-i.invariant.2 can)
+pub returns : goal.returns
+returns g c can = c.loop-outs.invariant.gives can _ (walked_none g.met.M.Measure.lawful _ _ _ (inl (omega arith)) (c.loop-outs.invariant.can can))

@@ -1,14 +1,10 @@
--- all matches with a place that was passed are looked at
-use Rattle.std.proofs.Common.{◌+◌, ◌-◌, ◌≤◌, length}
-use Rattle.tables.specs.Walks.{Walkable}
-use Rattle.tables.proofs.Walking.{WalkedTo}
+-- what the walk gives of the entries still ahead, it gives of the lists as they were passed
+use Rattle.std.proofs.Common.{◌+◌, length}
+use Rattle.tables.proofs.Walking.{GoesOn}
 use Rattle.tables.proofs.lookups.walk.Given as goal
 
-abbrev pub invariant-loop-i : goal.invariant-loop-i
-invariant-loop-i g l =
-    (l.i ≤ length l.outs)
-    × (l.j ≤ length l.ins)
-    × (Walkable g.M.Measure.meaning l.outs l.ins l.initial.best → WalkedTo g.M.Measure.meaning l.outs l.ins l.initial.best l.i l.j l.best)
+abbrev pub invariant-loop-outs : goal.invariant-loop-outs
+invariant-loop-outs g l = GoesOn g.M.Measure.meaning l.fn.outs l.fn.ins l.fn.start l.outs l.ins l.best
 
-abbrev pub decreases-loop-i : goal.decreases-loop-i
-decreases-loop-i g l = (length l.outs - l.i) + (length l.ins - l.j)
+abbrev pub decreases-loop-outs : goal.decreases-loop-outs
+decreases-loop-outs g l = length l.outs + length l.ins

@@ -1,6 +1,7 @@
-use Rattle.std.proofs.Common.{◌≡◌, ◌-◌, ◌<◌, ◌≤◌, length, get_or, Some, sym, ap, ◌∙◌, arith, false-eqb}
+use Rattle.std.proofs.Common.{◌≡◌, ◌-◌, ◌<◌, ◌≤◌, length, get_or, sym, subst, ◌∙◌, arith, false-eqb}
+use Rattle.std.specs.Result.{OkIff}
 use Rattle.words.specs.Numbers.{value}
-use Rattle.words.proofs.Reading.{digits_more, digits_fail, digits_all, value_more, value_all, value_bound, number_none_digit, number_none_above, number_some}
+use Rattle.words.proofs.Reading.{digits_more, digits_fail, digits_all, value_more, value_all, value_bound, number_none_digit, number_fits}
 use Rattle.words.proofs.numbers.number.Goals as goal
 
 pub returns-then-not-is_ascii_digit : goal.returns-then-not-is_ascii_digit
@@ -17,14 +18,10 @@ loop-digit-preserved c =
     simp c.from.ensures
     (value_more ds i inside c.loop-digit.value c.loop-digit.invariant.0, digits_more ds i inside (sym c.if-not-is_ascii_digit.ensures.value) c.loop-digit.invariant.1, value_bound c.loop-digit.value (get_or ds i 0 - 48) i c.loop-digit.invariant.2 small)
 
-pub returns-then-value-gt4294967295 : goal.returns-then-value-gt4294967295
-returns-then-value-gt4294967295 c =
-    let same : c.loop-digit.value ≡ value c.args.digits.now = value_all _ _ _ c.loop-digit-test.false c.loop-digit.invariant.0 in
-    number_none_above c.args.digits.now (omega arith)
-
 pub returns : goal.returns
 returns c =
     let ds = c.args.digits.now in
     let same : c.loop-digit.value ≡ value ds = value_all _ _ _ c.loop-digit-test.false c.loop-digit.invariant.0 in
     let some : 1 ≤ length ds = omega (arith, false-eqb (length ds) 0 c.if-is_empty.ensures) in
-    ap Some same ∙ number_some ds some (omega arith) (digits_all _ _ c.loop-digit-test.false c.loop-digit.invariant.1) (omega arith)
+    c.ok.ensures.value
+    ∙ number_fits ds c.try_from.result (subst (λ n. OkIff c.try_from.result (n < 4294967296) n) same c.try_from.ensures) some (omega arith) (digits_all _ _ c.loop-digit-test.false c.loop-digit.invariant.1)

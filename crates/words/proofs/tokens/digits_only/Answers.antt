@@ -1,17 +1,11 @@
-use Rattle.std.proofs.Common.{not, length, sym, ap, ◌∙◌}
-use Rattle.std.proofs.lemmas.Bool.{and_right}
-use Rattle.words.proofs.Reading.{digits_more, digits_fail, digits_all, digits_some}
+use Rattle.std.proofs.Common.{rules, ◌∙◌}
+use Rattle.std.proofs.lemmas.Iterator.{YieldsList-from_slice}
+use Rattle.std.proofs.lemmas.Iterator.Search.{all_from_yields_List}
+use Rattle.std.specs.Char.{is_ascii_digit}
+use Rattle.words.proofs.Reading.{only_listed}
 use Rattle.words.proofs.tokens.digits_only.Goals as goal
 
-pub returns-then-not-is_ascii_digit : goal.returns-then-not-is_ascii_digit
-returns-then-not-is_ascii_digit c =
-    sym (and_right _ _ (digits_fail c.args.word.now c.loop-byte.byte-index c.loop-byte-test.true (sym c.if-not-is_ascii_digit.ensures.value) c.loop-byte.invariant))
-
-pub loop-byte-preserved : goal.loop-byte-preserved
-loop-byte-preserved c =
-    digits_more c.args.word.now c.loop-byte.byte-index c.loop-byte-test.true (sym c.if-not-is_ascii_digit.ensures.value) c.loop-byte.invariant
-
-pub returns : goal.returns
-returns c =
-    ap not c.is_empty.ensures
-    ∙ digits_some (length c.args.word.now) _ (digits_all c.args.word.now c.loop-byte.byte-index c.loop-byte-test.false c.loop-byte.invariant)
+pub returns-then-not-is_empty : goal.returns-then-not-is_empty
+returns-then-not-is_empty c =
+    all_from_yields_List is_ascii_digit _ _ _ c.all.ensures.ran (YieldsList-from_slice c.args.word.now c.iter.ensures.rest) (λ x b q k. search rules)
+    ∙ only_listed c.args.word.now c.is_empty.result c.if-not-is_empty.true c.is_empty.ensures

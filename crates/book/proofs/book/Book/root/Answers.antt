@@ -1,63 +1,29 @@
-use Rattle.std.proofs.Common.{◌≡◌, ℕ, Some, Ok, Err, Option, Result, sym, ap, ◌∙◌, subst, arith, rules}
+use Rattle.std.proofs.Common.{◌≡◌, Some}
 use Rattle.std.proofs.lemmas.Result.{err_from_is_err_and}
-use Rattle.theory.specs.Books.{Stepped, root, built_answer}
-use Rattle.theory.specs.declared.Built.{Built}
-use Rattle.theory.specs.declared.Refusal.{Refusal}
-use Rattle.theory.specs.declared.Refusal.TheVariants.{WantOfPlaces}
+use Rattle.theory.specs.Books.{root_refusal}
 use Rattle.theory.proofs.Guarantees.{nothing_fits}
 use Rattle.book.specs.Views.{view}
-use Rattle.book.proofs.NextRoots.{root_turned, root_wants, root_taken, wanting, slices_on}
+use Rattle.book.proofs.NextRoots.{root_taken, wanting}
 use Rattle.book.proofs.book.Book.root.Goals as goal
 
-err_same : (a b : Refusal) → ◌≡◌ {A = Result Built Refusal} (Err a) (Err b) → a ≡ b
-err_same a b e = cc
-
-ok_err : (a : Built) (b : Refusal) → ◌≡◌ {A = Result Built Refusal} (Ok a) (Err b) → ⊥
-ok_err a b e = let z : ◌≡◌ {A = ℕ} 0 1 = cc in omega arith
-
-pub returns-in_err-root : goal.returns-in_err-root
-returns-in_err-root g c =
+pub returns-in_err-root-clause-wanting : goal.returns-in_err-root-clause-wanting
+returns-in_err-root-clause-wanting g c e K =
     let m = g.M.Measure.meaning in
+    let v = view c.args.self.now in
     let p = err_from_is_err_and c.from_residual.result c.from_residual.ensures.1 in
-    record {
-      called = λ K. (
-        subst (λ x. Stepped m (view c.args.self.now) root (built_answer x) (view c.args.self.now)) (sym p.1)
-            (root_turned m g.met.M.Measure.lawful (view c.args.self.now) p.0 (c.in_err-root.ensures ∙ ap {B = Option Refusal} (λ (e : Refusal). Some e) (sym p.2))),
-        K,
-      );
-      wanting = λ e K. wanting m g.met.M.Measure.lawful (view c.args.self.now) K.sound c.args.self.now.phase
-          (c.in_err-root.ensures ∙ ap {B = Option Refusal} (λ (e : Refusal). Some e) (sym p.2 ∙ err_same p.0 WantOfPlaces (sym p.1 ∙ e)));
-      slices = search rules;
-    }
+    let why : root_refusal m v v.phase ≡ Some p.0 = cc (c.in_err-root.ensures, p.2) in
+    wanting m g.met.M.Measure.lawful v K.sound v.phase (cc (why, p.1))
 
-pub returns-then-not-put_in : goal.returns-then-not-put_in
-returns-then-not-put_in g c =
-    let m = g.M.Measure.meaning in
-    let L = g.met.M.Measure.lawful in
-    let v = view c.args.self.now in
-    record {
-      called = λ K.
-          let N = c.in_ok-root.ensures K in
-          let O = c.put_in.ensures.refused c.if-not-put_in.true K N in
-          (root_wants m L v K.sound c.in_ok-root.root N (view c.put_in.new.self) O.wanting O.seen, O.kept);
-      wanting = λ _ K.
-          let N = c.in_ok-root.ensures K in
-          let O = c.put_in.ensures.refused c.if-not-put_in.true K N in
-          nothing_fits m L v K.sound _ O.wanting;
-      slices = search rules;
-    }
+pub returns-in_err-put_in-clause-wanting : goal.returns-in_err-put_in-clause-wanting
+returns-in_err-put_in-clause-wanting g c _ K =
+    let O = c.in_err-put_in.ensures.answer.1 K (c.in_ok-root.ensures K) in
+    nothing_fits g.M.Measure.meaning g.met.M.Measure.lawful (view c.args.self.now) K.sound _ O.wanting
 
-pub returns : goal.returns
-returns g c =
+pub returns-clause-called : goal.returns-clause-called
+returns-clause-called g c K =
     let m = g.M.Measure.meaning in
-    let L = g.met.M.Measure.lawful in
     let v = view c.args.self.now in
-    record {
-      called = λ K.
-          let N = c.in_ok-root.ensures K in
-          let P = c.put_in.ensures.taken c.if-not-put_in.false K N in
-          let o = c.conclude.ensures.concluded v K.sound N P in
-          (root_taken m L v K.sound c.in_ok-root.root N _ (view c.conclude.new.self) P.enough o.0 o.1, o.2);
-      wanting = λ e. absurd (ok_err c.conclude.result WantOfPlaces e);
-      slices = slices_on c.args.self.now c.put_in.new.self c.conclude.new.self c.put_in.ensures.slices c.conclude.ensures.slices;
-    }
+    let N = c.in_ok-root.ensures K in
+    let P = c.in_ok-put_in.ensures.answer K N in
+    let o = c.conclude.ensures.concluded v K.sound N P in
+    (root_taken m g.met.M.Measure.lawful v K.sound c.in_ok-root.root N _ (view c.conclude.new.self) P.enough o.0 o.1, o.2)

@@ -1,0 +1,70 @@
+-- What is kept true of a book has one proof at most: each part of it is an order of numbers, or an equation at a type that has a code.
+use Rattle.std.specs.Prelude.{ℕ, true, List, [], ◌∷◌}
+use Rattle.std.specs.Coded.{Coded, Coded-set, coded_ℕ, coded_list, coded×, code_by, ×_prop, le_prop}
+use Rattle.std.specs.List.{AllByRecursion}
+use mathlib.Core.Bool.{Bool-set}
+use mathlib.Core.Path.{refl}
+use Rattle.theory.specs.declared.Redraw.{Redraw}
+use Rattle.theory.specs.declared.Entry.{Entry}
+use Rattle.theory.specs.declared.Phase.{Phase}
+use Rattle.theory.specs.declared.Phase.TheVariants.{Open, Rounds, Roots, Finished}
+use Rattle.theory.specs.Measures.{Meaning}
+use Rattle.theory.specs.Books.{View, Strips, Stands, Sound}
+use Rattle.book.specs.declared.book.Book.{Book}
+use Rattle.book.specs.Views.{Kept}
+
+coded_redraw : Coded Redraw
+coded_redraw = code_by _ (coded× (coded× coded_ℕ coded_ℕ) (coded× coded_ℕ coded_ℕ))
+    (λ r. ((r.from, r.to), (r.minutes, r.grade)))
+    (λ ((from, to), (minutes, grade)). record { from = from; to = to; minutes = minutes; grade = grade })
+    (λ _. refl)
+
+all_prop : {X : Type 0} (P : X → Type 0) → ((x : X) → IsProp (P x)) → (xs : List X) → IsProp (AllByRecursion P xs)
+all_prop P h [] = λ p q. refl
+all_prop P h (x ∷ xs) = ×_prop (h x) (all_prop P h xs)
+
+module _ {V : Type 0} (V_coded : Coded V) where
+  coded_entry : Coded (Entry V)
+  coded_entry = code_by _ (coded× (coded× coded_ℕ coded_ℕ) V_coded)
+      (λ e. ((e.from, e.to), e.value))
+      (λ ((from, to), value). record { from = from; to = to; value = value })
+      (λ _. refl)
+
+  coded_entries : Coded (List (Entry V))
+  coded_entries = coded_list coded_entry
+
+  entries_set : IsSet (List (Entry V))
+  entries_set = Coded-set coded_entries
+
+  strips_set : IsSet (Strips V)
+  strips_set = Coded-set (code_by _ (coded× (coded_list coded_redraw) (coded× (coded× coded_entries coded_entries) (coded× (coded_list V_coded) (coded_list coded_ℕ))))
+      (λ s. (s.register, ((s.table, s.spare), (s.work, s.marks))))
+      (λ (register, ((table, spare), (work, marks))). record { register = register; table = table; spare = spare; work = work; marks = marks })
+      (λ _. refl))
+
+  stands_prop : (m : Meaning V) (n : ℕ) (rs : List Redraw) (es : List (Entry V)) (phase : Phase) → IsProp (Stands m n rs es phase)
+  stands_prop m n rs es Open = entries_set es _
+  stands_prop m n rs es (Rounds k) = ×_prop le_prop (entries_set es _)
+  stands_prop m n rs es (Roots r) = λ p q i. (le_prop p.0 q.0 i, le_prop p.1 q.1 i, entries_set es _ p.2 q.2 i)
+  stands_prop m n rs es Finished = entries_set es _
+
+  sound_prop : (m : Meaning V) (v : View V) → IsProp (Sound m v)
+  sound_prop m v p q = λ i. record {
+    some_sheets = le_prop p.some_sheets q.some_sheets i;
+    sheets_bound = le_prop p.sheets_bound q.sheets_bound i;
+    register_bound = le_prop p.register_bound q.register_bound i;
+    table_bound = le_prop p.table_bound q.table_bound i;
+    redraws_within = le_prop p.redraws_within q.redraws_within i;
+    entries_within = le_prop p.entries_within q.entries_within i;
+    redraws_fit = all_prop _ (λ r. Bool-set _ true) v.redraws p.redraws_fit q.redraws_fit i;
+    stands = stands_prop m v.sheets v.redraws v.entries v.phase p.stands q.stands i;
+  }
+
+  -- what is kept true of a book has one proof at most
+  pub kept_prop : (m : Meaning V) (b : Book V) → IsProp (Kept m b)
+  kept_prop m b p q = λ i. record {
+    redraws_counted = le_prop p.redraws_counted q.redraws_counted i;
+    entries_counted = le_prop p.entries_counted q.entries_counted i;
+    strips_laid_out = strips_set _ _ p.strips_laid_out q.strips_laid_out i;
+    sound = sound_prop m _ p.sound q.sound i;
+  }
