@@ -3,8 +3,11 @@
 
 ghost use Rattle.std.specs.Prelude.{◌≡◌, ◌++◌, string_bytes, OnOk, Some};
 ghost use Rattle.answers.specs.Printed.{layer_text, progress_text, refused_line, opening_line, redraw_line, clear_line, root_line, look_line, entry_line};
+ghost use Rattle.answers.specs.declared.Layer.TheVariants as layers;
+ghost use Rattle.orders.specs.Refusals.{faulty_word, refusal_number as line_refusal_number};
 ghost use Rattle.theory.specs.Refusals.{refusal_number};
 
+use orders::refusals::LineRefusal;
 use orders::vocabulary::{FirstWord, Kind};
 use std::alloc::AllocError;
 use std::fmt;
@@ -31,6 +34,43 @@ impl fmt::Display for Layer {
     }
 }
 
+/// Why a line is refused, as it is printed.
+#[derive(Clone, Copy, Debug, PartialEq, Eq)]
+pub struct Fault {
+    /// Who refuses it.
+    pub layer: Layer,
+    /// Its first faulty word, counted from 0.
+    pub word: usize,
+    /// The number of the refusal.
+    pub number: u32,
+}
+
+/// What the line language refuses a line for: the word that is at fault, and the refusal's number.
+impl From<LineRefusal> for Fault {
+    ghost from_gives = { λ r f. f ≡ record { layer = layers.Line; word = faulty_word r; number = line_refusal_number r } };
+
+    fn from(refusal: LineRefusal) -> Fault {
+        Fault {
+            layer: Layer::Line,
+            word: refusal.word(),
+            number: refusal.number(),
+        }
+    }
+}
+
+/// What the book refuses a line for: it names the line's first word, and the number of the refusal's case.
+impl From<Refusal> for Fault {
+    ghost from_gives = { λ r f. f ≡ record { layer = layers.Book; word = 0; number = refusal_number r } };
+
+    fn from(refusal: Refusal) -> Fault {
+        Fault {
+            layer: Layer::Book,
+            word: 0,
+            number: refusal as u32,
+        }
+    }
+}
+
 /// How far a book is built, as it is printed. Not a `Display`, since `Progress` is a type of the theory, whose crate holds no functions.
 pub fn progress_text(progress: Progress) -> &'static str
     ensures { result.now ≡ progress_text progress }
@@ -41,23 +81,15 @@ pub fn progress_text(progress: Progress) -> &'static str
     }
 }
 
-/// The number by which a refusal of the book is printed, which is that of its case.
-pub fn refusal_code(refusal: Refusal) -> u32
-    ensures { result ≡ refusal_number refusal }
-{
-    refusal as u32
-}
-
 /// A refusal of the line with this number, counted from 1: its layer, its first faulty word and its number.
-pub fn refused(
-    out: &mut String,
-    line: usize,
-    layer: Layer,
-    word: usize,
-    number: u32,
-) -> Result<(), AllocError>
-    ensures { OnOk result (string_bytes out.new ≡ string_bytes out.old ++ refused_line line layer word number) }
+pub fn refused(out: &mut String, line: usize, fault: Fault) -> Result<(), AllocError>
+    ensures { OnOk result (string_bytes out.new ≡ string_bytes out.old ++ refused_line line fault.layer fault.word fault.number) }
 {
+    let Fault {
+        layer,
+        word,
+        number,
+    } = fault;
     writeln!(out, "refused {line} {layer} {word} {number}")
 }
 
@@ -120,7 +152,12 @@ mod tests {
         let mut out = String::new(rt.alloc());
         opening(&mut out, Kind::Minutes, 4)?;
         redraw(&mut out, 3)?;
-        refused(&mut out, 7, Layer::Line, 2, 23)?;
+        let fault = Fault {
+            layer: Layer::Line,
+            word: 2,
+            number: 23,
+        };
+        refused(&mut out, 7, fault)?;
         root(&mut out, 4, Progress::Finished)?;
         look(&mut out, "2 3")?;
         entry(&mut out, 3, 0, "40")?;

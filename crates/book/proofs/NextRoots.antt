@@ -47,6 +47,11 @@ module _ {V : Type 0} (m : Meaning V) (L : Lawful m) where
         only_places = ap (root_refusal m v) e;
       }
 
+  -- where a root leaves the phase, by whether it was the last
+  advanced_root : (p : Phase) (last : Bool) → advanced p (taken.Root (progress last)) ≡ phase_after last (phases.TheVariants.Roots (one_more (roots_done p)))
+  advanced_root p true = refl
+  advanced_root p false = refl
+
   -- once the phase has moved on the book is sound again, and says so
   module _ (v : View V) (S : Sound m v) (r : ℕ) (N : NextRoot m v r) where
     stands_then : (d : Bool) → eqb (suc r) v.sheets ≡ d → Stands m v.sheets v.redraws (root_entries m v (suc r)) (phase_after d (phases.TheVariants.Roots (suc r)))
@@ -73,9 +78,9 @@ module _ {V : Type 0} (m : Meaning V) (L : Lawful m) where
           stands = stands_then (eqb (suc r) v.sheets) refl;
         })
 
-    pub concluded : (b : Book V) (p : Phase) → PutIn m v r b → (number : ℕ) → number ≡ r + 1 → (last : Bool) → last ≡ eqb number b.sheets → p ≡ advanced b.phase (taken.Root last) → (says : Progress) → says ≡ progress last
+    pub concluded : (b : Book V) (p : Phase) → PutIn m v r b → (number : ℕ) → number ≡ r + 1 → (last : Bool) → last ≡ eqb number b.sheets → (says : Progress) → says ≡ progress last → p ≡ advanced b.phase (taken.Root says)
         → (built number says ≡ taken_answer m v root) × (view (record b { phase = p }) ≡ taken_view m v root) × Kept m (record b { phase = p })
-    concluded b p P number en last el ep says eq =
+    concluded b p P number en last el says eq ep =
         let few : v.sheets ≤ 1024 = S.sheets_bound in
         let below : r < v.sheets = N.below in
         let d : roots_done v.phase ≡ r = N.roots_are in
@@ -83,7 +88,7 @@ module _ {V : Type 0} (m : Meaning V) (L : Lawful m) where
         let ends : last ≡ root_ends v = el ∙ ap₂ eqb one (ap (λ x. x.sheets) P.seen) in
         let same : roots_done b.phase ≡ r = ap (λ x. roots_done x.phase) P.seen ∙ d in
         let more : one_more (roots_done b.phase) ≡ suc (roots_done v.phase) = omega arith in
-        let phase_then : p ≡ phase_after (root_ends v) (phases.TheVariants.Roots (suc (roots_done v.phase))) = ep ∙ ap₂ (λ (e : Bool) (k : ℕ). phase_after e (phases.TheVariants.Roots k)) ends more in
+        let phase_then : p ≡ phase_after (root_ends v) (phases.TheVariants.Roots (suc (roots_done v.phase))) = ep ∙ ap (λ s. advanced b.phase (taken.Root s)) eq ∙ advanced_root b.phase last ∙ ap₂ (λ (e : Bool) (k : ℕ). phase_after e (phases.TheVariants.Roots k)) ends more in
         let seen : view (record b { phase = p }) ≡ taken_view m v root = ap (λ x. changed x x.redraws x.entries p) P.seen ∙ ap₂ (λ k q. changed v v.redraws (root_entries m v k) q) (sym done_is) phase_then in (
           ap₂ (λ k q. built k q) one (eq ∙ ap progress ends),
           seen,

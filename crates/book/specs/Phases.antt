@@ -3,7 +3,8 @@
 use Rattle.std.specs.Prelude.{ℕ, ◌+◌, ◌-◌, ◌^◌, min}
 use Rattle.theory.specs.declared.Phase as phases
 use Rattle.theory.specs.declared.Phase.{Phase}
-use Rattle.theory.specs.Books.{phase_after, rounds_done, roots_done}
+use Rattle.theory.specs.declared.Progress.TheVariants.{Open, Finished}
+use Rattle.theory.specs.Books.{rounds_done, roots_done}
 use Rattle.book.specs.declared.phase.Taken.{Taken}
 use Rattle.book.specs.declared.phase.Taken.TheVariants.{Enter, Clear, Round, Root}
 
@@ -15,5 +16,7 @@ one_more k = min (k + 1) (2 ^ 32 - 1)
 abbrev pub advanced : Phase → Taken → Phase
 advanced p Enter = phases.TheVariants.Open
 advanced p Clear = phases.TheVariants.Open
-advanced p (Round done) = phase_after done (phases.TheVariants.Rounds (one_more (rounds_done p)))
-advanced p (Root done) = phase_after done (phases.TheVariants.Roots (one_more (roots_done p)))
+advanced p (Round Finished) = phases.TheVariants.Finished
+advanced p (Round Open) = phases.TheVariants.Rounds (one_more (rounds_done p))
+advanced p (Root Finished) = phases.TheVariants.Finished
+advanced p (Root Open) = phases.TheVariants.Roots (one_more (roots_done p))

@@ -7,6 +7,7 @@ use theory::{Entry, Redraw};
 /// Lent slices of the right lengths for a book of so many sheets. Whoever writes one down owes the lengths, which `check` answers for.
 #[derive(Drop)]
 pub struct Checked<'r, 't, 's, 'w, 'm, M: Measure> {
+    // Five slices and no one struct of strips: each strip is lent on its own, by the rules of the book.
     /// The redraws will stand here.
     pub register: &'r mut [Redraw],
     /// The entries of the table will stand here.

@@ -8,7 +8,7 @@ use crate::book::Book;
 use crate::phase::{Taken, advance};
 use measures::Measure;
 use tables::blank_entry;
-use theory::{Redraw, Refusal};
+use theory::{Redraw, RedrawNumbers, Refusal};
 
 /// The most minutes of a redraw.
 const MOST_MINUTES: u32 = 65535;
@@ -18,33 +18,33 @@ const CLEANEST_GRADE: u32 = 5;
 
 impl<'r, 't, 's, 'w, 'm, M: Measure> Book<'r, 't, 's, 'w, 'm, M> {
     /// The redraw that an enter gives, if it may stand in a register of the book.
-    fn admit(&self, from: u32, to: u32, minutes: u32, grade: u32) -> Result<Redraw, Refusal>
-        ensures { MatchResult result (λ d. Admitted (view self.now) from to minutes grade d) (λ e. enter_refusal (view self.now) from to minutes grade ≡ Some e) }
+    fn admit(&self, asked: RedrawNumbers) -> Result<Redraw, Refusal>
+        ensures { MatchResult result (λ d. Admitted (view self.now) asked.from asked.to asked.minutes asked.grade d) (λ e. enter_refusal (view self.now) asked.from asked.to asked.minutes asked.grade ≡ Some e) }
     {
-        let (from, to) = self.pair(from, to)?;
+        let (from, to) = self.pair(asked.from, asked.to)?;
         if from == to {
             return Err(Refusal::SameSheet);
         }
-        if !(1..=MOST_MINUTES).contains(&minutes) {
+        if !(1..=MOST_MINUTES).contains(&asked.minutes) {
             return Err(Refusal::Minutes);
         }
-        if !(1..=CLEANEST_GRADE).contains(&grade) {
+        if !(1..=CLEANEST_GRADE).contains(&asked.grade) {
             return Err(Refusal::Grade);
         }
         Ok(Redraw {
             from,
             to,
-            minutes: minutes as u16,
-            grade: grade as u8,
+            minutes: asked.minutes as u16,
+            grade: asked.grade as u8,
         })
     }
 
     /// Enters a redraw, empties the table and opens the book; answers the number of redraws held.
-    pub fn enter(&mut self, from: u32, to: u32, minutes: u32, grade: u32) -> Result<u32, Refusal>
-        ensures called { Called M.Measure.meaning self.old (enter_call from to minutes grade) (enter_answer result) self.new }
+    pub fn enter(&mut self, asked: RedrawNumbers) -> Result<u32, Refusal>
+        ensures called { Called M.Measure.meaning self.old (enter_call asked.from asked.to asked.minutes asked.grade) (enter_answer result) self.new }
         ensures slices { SameSlices self.old self.new }
     {
-        let redraw = self.admit(from, to, minutes, grade)?;
+        let redraw = self.admit(asked)?;
         self.register
             .push(redraw)
             .map_err(|_| Refusal::RegisterFull)?;

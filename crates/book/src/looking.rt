@@ -17,6 +17,7 @@ impl<'r, 't, 's, 'w, 'm, M: Measure> Book<'r, 't, 's, 'w, 'm, M> {
     {
         let sheets = u32::from(self.sheets);
         if from < sheets && to < sheets {
+            // Tested above, so that no bit is lost; `try_from` would add a case that cannot be.
             Ok((from as u16, to as u16))
         } else {
             Err(Refusal::UnknownSheet)

@@ -2,19 +2,19 @@
 ghost use Rattle.std.specs.Prelude.{◌≡◌};
 ghost use Rattle.book.specs.Phases.{advanced};
 
-use theory::Phase;
+use theory::{Phase, Progress};
 
-/// A call that was taken: an enter, a clear, or a builder's turn and whether it ended the building.
+/// A call that was taken: an enter, a clear, or a builder's turn and what the builder says of the book then.
 #[derive(Debug, Clone, Copy, PartialEq, Eq)]
 pub enum Taken {
     /// A redraw was entered.
     Enter,
     /// The table was emptied.
     Clear,
-    /// A round was built: whether it ended the building.
-    Round(bool),
-    /// A root was built: whether it ended the building.
-    Root(bool),
+    /// A round was built.
+    Round(Progress),
+    /// A root was built.
+    Root(Progress),
 }
 
 /// Moves the phase on for a call that was taken.
@@ -23,10 +23,12 @@ pub(crate) fn advance(phase: &mut Phase, taken: Taken)
 {
     *phase = match (*phase, taken) {
         (_, Taken::Enter | Taken::Clear) => Phase::Open,
-        (_, Taken::Round(true) | Taken::Root(true)) => Phase::Finished,
-        (Phase::Rounds(accepted), Taken::Round(false)) => Phase::Rounds(accepted.saturating_add(1)),
-        (Phase::Roots(done), Taken::Root(false)) => Phase::Roots(done.saturating_add(1)),
-        (_, Taken::Round(false)) => Phase::Rounds(1),
-        (_, Taken::Root(false)) => Phase::Roots(1),
+        (_, Taken::Round(Progress::Finished) | Taken::Root(Progress::Finished)) => Phase::Finished,
+        (Phase::Rounds(accepted), Taken::Round(Progress::Open)) => Phase::Rounds(
+            accepted.saturating_add(1),
+        ),
+        (Phase::Roots(done), Taken::Root(Progress::Open)) => Phase::Roots(done.saturating_add(1)),
+        (_, Taken::Round(Progress::Open)) => Phase::Rounds(1),
+        (_, Taken::Root(Progress::Open)) => Phase::Roots(1),
     };
 }

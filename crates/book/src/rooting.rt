@@ -11,6 +11,7 @@ use roots::grow;
 use theory::{Built, Phase, Progress, Refusal};
 
 /// What a builder says of the book after its turn.
+// No `From`: the type is of another crate, which holds no functions.
 fn progress_of(done: bool) -> Progress
     ensures { result ≡ progress done }
 {
@@ -62,12 +63,9 @@ impl<'r, 't, 's, 'w, 'm, M: Measure> Book<'r, 't, 's, 'w, 'm, M> {
         ensures slices { SameSlices self.old self.new }
     {
         let number = u32::from(root) + 1;
-        let last = number == u32::from(self.sheets);
-        advance(&mut self.phase, Taken::Root(last));
-        Built {
-            number,
-            progress: progress_of(last),
-        }
+        let progress = progress_of(number == u32::from(self.sheets));
+        advance(&mut self.phase, Taken::Root(progress));
+        Built { number, progress }
     }
 
     /// Builds the next root, from sheet 0 on: afterwards the table is every finished entry whose senior sheet is the root or lower.

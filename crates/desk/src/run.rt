@@ -9,7 +9,6 @@ ghost use Rattle.desk.specs.Desk.{opening_refusal, ServedBook, Opened, Session a
 ghost use Rattle.desk.specs.Sizes.{HasPlaces};
 ghost use Rattle.book.specs.Makings.{Makeable};
 
-use answers::{Layer, refusal_code};
 use book::{Checked, check};
 use ledgers::KeptBook;
 use measures::{Chain, Measure, Minutes, Weakest};
@@ -93,14 +92,13 @@ where
 
 /// Opens a book under the measure and serves the further lines, or answers why the book refuses the opening.
 fn serve_under<M: Measure + Display>(
-    heap: Global,
     opening: Opening,
     lines: &mut Lines,
     out: &mut String,
 ) -> Result<Result<(), Refusal>, AllocError>
     ensures { IfOk result (λ tried. MatchResult tried (λ _. (opening_refusal opening.sheets ≡ None) × ServedBook M.Measure.meaning M.Display.output lines.old.number (ahead lines.old.input.now lines.old.place) opening.sheets (string_bytes out.old ++ opening_line opening.kind opening.sheets) (string_bytes out.new)) (λ e. (opening_refusal opening.sheets ≡ Some e) × (lines.new ≡ lines.old) × (out.new ≡ out.old))) }
 {
-    let mut memory: Memory<M> = Memory::new(heap, opening.sheets)?;
+    let mut memory: Memory<M> = Memory::new(*out.allocator(), opening.sheets)?;
     let sheets = match memory.check(opening.sheets) {
         Ok(sheets) => sheets,
         Err(refusal) => return Ok(Err(refusal)),
@@ -121,7 +119,6 @@ fn serve_under<M: Measure + Display>(
 
 /// Opens a book of the kind that the line asks for and serves the further lines, or answers why the book refuses the opening.
 fn open(
-    heap: Global,
     opening: Opening,
     lines: &mut Lines,
     out: &mut String,
@@ -129,9 +126,9 @@ fn open(
     ensures { IfOk result (λ tried. MatchResult tried (λ _. Opened opening lines.old.number (ahead lines.old.input.now lines.old.place) true (string_bytes out.old) (string_bytes out.new)) (λ e. (opening_refusal opening.sheets ≡ Some e) × (lines.new ≡ lines.old) × (out.new ≡ out.old))) }
 {
     match opening.kind {
-        Kind::Minutes => serve_under::<Minutes>(heap, opening, lines, out),
-        Kind::Chain => serve_under::<Chain>(heap, opening, lines, out),
-        Kind::Weakest => serve_under::<Weakest>(heap, opening, lines, out),
+        Kind::Minutes => serve_under::<Minutes>(opening, lines, out),
+        Kind::Chain => serve_under::<Chain>(opening, lines, out),
+        Kind::Weakest => serve_under::<Weakest>(opening, lines, out),
     }
 }
 
@@ -142,17 +139,9 @@ pub fn run(heap: Global, input: &[u8]) -> Result<String, AllocError>
     let mut out = String::new(heap);
     let mut lines = Lines::new(input);
     while let Some(opening) = await_opening(&mut lines, &mut out)? {
-        match open(heap, opening, &mut lines, &mut out)? {
+        match open(opening, &mut lines, &mut out)? {
             Ok(()) => return Ok(out),
-            Err(refusal) => {
-                answers::refused(
-                    &mut out,
-                    opening.number,
-                    Layer::Book,
-                    0,
-                    refusal_code(refusal),
-                )?;
-            }
+            Err(refusal) => answers::refused(&mut out, opening.number, refusal.into())?,
         }
     }
     Ok(out)

@@ -29,7 +29,7 @@ pub record Layable {V : Type 0} (m : Meaning V) (n : ℕ) (source : Source V) (s
   pub spare_blank : spare.cells.now ≡ replicate (length spare.cells.now) (blank_entry m)
   pub work_blank : work ≡ replicate n m.none
 
--- the listing of g was laid in a strip of so many places, the rest of it blank, if that is so; otherwise it exceeds the places
+-- the listing of g was laid in a strip of so many places, the rest of it blank, where the answer is true; where it is false the listing exceeds the places
 abbrev pub Laid : {V : Type 0} → Meaning V → ℕ → Table V → ℕ → Bool → Strip (Entry V) → Type 0
 Laid m n g places false spare' = places < length (listed m n g)
 Laid m n g places true spare' = (spare'.count ≡ length (listed m n g)) × (spare'.count ≤ places) × (spare'.cells.now ≡ padded (blank_entry m) places (listed m n g))

@@ -9,7 +9,7 @@ use crate::source::Source;
 use crate::ways::Row;
 use measures::Measure;
 use strips::{at, put};
-use tables::list_of;
+use tables::{joined, list_of};
 use theory::{Entry, Redraw};
 
 /// Offers a value to a sheet, which keeps the better one.
@@ -22,6 +22,7 @@ fn offer<M: Measure>(work: &mut [M], sheet: u16, value: M)
 }
 
 /// The entry that a redraw alone would give.
+// No `From`: both types are of another crate, which holds no functions.
 fn as_entry<M: Measure>(redraw: Redraw) -> Entry<M>
     ensures { result ≡ redraw_entry M.Measure.meaning redraw }
 {
@@ -49,7 +50,7 @@ impl Row {
     {
         let (_, far) = self.ends(entry);
         if far < self.junior {
-            offer(work, far, self.joined(value, entry.value));
+            offer(work, far, joined(self.way, value, entry.value));
         }
     }
 

@@ -2,7 +2,7 @@
 use theory::{Entry, Redraw};
 
 /// What the next round takes: the redraws, from an open book, or the present entries.
-#[derive(Clone, Copy)]
+#[derive(Debug, Clone, Copy, PartialEq, Eq)]
 pub enum Source<'a, M> {
     /// The redraws held.
     Redraws(&'a [Redraw]),

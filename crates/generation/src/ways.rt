@@ -1,14 +1,12 @@
-// One row serves both ways: what an entry and a join are to the out row and to the in row of a junior sheet.
+// One row serves both ways: what an entry is to the out row and to the in row of a junior sheet.
 ghost use Rattle.std.specs.Prelude.{◌≡◌};
-ghost use Rattle.theory.specs.Searches.{facing};
 ghost use Rattle.generation.specs.Offers.{near_end, far_end};
 
-use measures::Measure;
 use tables::in_order;
 use theory::{Entry, Way};
 
 /// A row of the generated table: the entries of one way between a junior sheet and the sheets senior to it.
-#[derive(Clone, Copy)]
+#[derive(Debug, Clone, Copy, PartialEq, Eq)]
 pub struct Row {
     /// Whether they lead out from the junior sheet, or in to it.
     pub way: Way,
@@ -23,13 +21,5 @@ impl Row {
         ensures far { result.1 ≡ far_end self.way entry }
     {
         in_order(self.way, entry.from, entry.to)
-    }
-
-    /// The join of the value of an entry of the junior sheet and the value of one that leads on from there.
-    pub fn joined<M: Measure>(self, near: M, far: M) -> M
-        ensures { result ≡ (facing self.way M.Measure.meaning).join near far }
-    {
-        let (front, back) = in_order(self.way, near, far);
-        front.join(back)
     }
 }

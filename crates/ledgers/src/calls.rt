@@ -8,7 +8,7 @@ use crate::kept_book::KeptBook;
 use book::Checked;
 use measures::Measure;
 use priced::PricedBook;
-use theory::{Built, Entry, Refusal};
+use theory::{Built, Entry, RedrawNumbers, Refusal};
 
 impl<'r, 't, 's, 'w, 'm, M: Measure> KeptBook<'r, 't, 's, 'w, 'm, M> {
     /// Makes the book over what was checked: open, with no redraws and no entries.
@@ -28,8 +28,8 @@ impl<'r, 't, 's, 'w, 'm, M: Measure> PricedBook for KeptBook<'r, 't, 's, 'w, 'm,
     ghost view = { λ b. view b.book };
 
     /// Enters a redraw.
-    fn enter(&mut self, from: u32, to: u32, minutes: u32, grade: u32) -> Result<u32, Refusal> {
-        self.book.enter(from, to, minutes, grade)
+    fn enter(&mut self, asked: RedrawNumbers) -> Result<u32, Refusal> {
+        self.book.enter(asked)
     }
 
     /// Empties the table and opens the book.

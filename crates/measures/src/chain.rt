@@ -4,17 +4,15 @@ ghost use Rattle.measures.specs.ChainMeaning.{chain_meaning};
 ghost use Rattle.measures.specs.Texts.{chain_text};
 ghost use Rattle.measures.specs.ChainLaws.{chain_lawful};
 
-use crate::measure::{Measure, Strict};
+use crate::measure::{CLEANEST, Measure, Strict};
 use std::fmt;
 use theory::Redraw;
 
 /// A chain of so many steps, or of more, counts as none.
 const TOO_MANY: u16 = u16::MAX;
 
-/// The cleanest line grade, which the empty chain has.
-const CLEANEST: u8 = 5;
-
 /// No chain, or the steps of a chain and its lowest grade.
+// Not an `Option`: the orphan rule refuses `Display` for one, and a struct around one is opened and closed in every match.
 #[derive(Debug, Clone, Copy, PartialEq, Eq)]
 pub enum Chain {
     /// No chain.

@@ -4,6 +4,9 @@ ghost use Rattle.theory.specs.Measures.{Meaning, Lawful, Strict as StrictLaw};
 
 use theory::Redraw;
 
+/// The cleanest line grade, which the empty chain has.
+pub(crate) const CLEANEST: u8 = 5;
+
 /// A lawful measure (an ordered monoid of path weights). `Self` is the type of its values.
 /// Its meaning is its answers: each depends on what is asked alone, and nothing is refused.
 pub trait Measure: Copy {

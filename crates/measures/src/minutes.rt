@@ -9,6 +9,7 @@ use std::fmt;
 use theory::Redraw;
 
 /// What stands for none; a sum that comes to so many minutes is none too.
+// A number and no `None`, by the office's rules: a sum runs into it.
 const NONE: u32 = u32::MAX;
 
 /// The minutes of a chain, or none.

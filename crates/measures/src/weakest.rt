@@ -4,15 +4,13 @@ ghost use Rattle.measures.specs.WeakestMeaning.{weakest_meaning};
 ghost use Rattle.measures.specs.Texts.{weakest_text};
 ghost use Rattle.std.proofs.Common.{rules};
 
-use crate::measure::Measure;
+use crate::measure::{CLEANEST, Measure};
 use std::fmt;
 use theory::Redraw;
 
 /// The grade below all line grades, which stands for none.
+// A number and no `None`, by the office's rules.
 const NONE: u8 = 0;
-
-/// The cleanest line grade, which the empty chain has.
-const CLEANEST: u8 = 5;
 
 /// The lowest grade of a chain, or none.
 #[derive(Debug, Clone, Copy, PartialEq, Eq)]

@@ -65,10 +65,10 @@ module _ (line : List ℕ) (p q : Place) (a : ℕ) (h : Ok a ≡ number_or_fault
         pub redraw_fourth : (e : LineRefusal) → Err e ≡ number_or_fault line 4 s → Err e ≡ command_at line word.Redraw (p ∷ q ∷ r ∷ s ∷ [])
         redraw_fourth e k = at_fault line word.Redraw (p ∷ q ∷ r ∷ s ∷ []) refl 4 e (named line 4 s e k) (three ∙ off line 4 s [] e k)
 
-        pub redraw_read : (d : ℕ) → Ok d ≡ number_or_fault line 4 s → Ok (command.Redraw a b c d) ≡ command_at line word.Redraw (p ∷ q ∷ r ∷ s ∷ [])
+        pub redraw_read : (d : ℕ) → Ok d ≡ number_or_fault line 4 s → Ok (command.Redraw (record { from = a; to = b; minutes = c; grade = d })) ≡ command_at line word.Redraw (p ∷ q ∷ r ∷ s ∷ [])
         redraw_read d k =
-            sound line word.Redraw (p ∷ q ∷ r ∷ s ∷ []) refl (command.Redraw a b c d)
-            (λ x. command.Redraw (worth line 1 p a h x) (worth line 2 q b i x) (worth line 3 r c j x) (worth line 4 s d k x))
+            sound line word.Redraw (p ∷ q ∷ r ∷ s ∷ []) refl (command.Redraw (record { from = a; to = b; minutes = c; grade = d }))
+            (λ x. command.Redraw (record { from = worth line 1 p a h x; to = worth line 2 q b i x; minutes = worth line 3 r c j x; grade = worth line 4 s d k x }))
             (three ∙ on line 4 s [] d k)
 
 -- what a pattern names where the list has no place there

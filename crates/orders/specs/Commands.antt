@@ -16,7 +16,7 @@ use Rattle.orders.specs.Vocabulary.{numbers_after, begins_book, named_by}
 -- the word that a line with the command begins with
 abbrev pub first_word_of : Command → FirstWord
 first_word_of (command.Open k n) = word.Open k
-first_word_of (command.Redraw f t m g) = word.Redraw
+first_word_of (command.Redraw numbers) = word.Redraw
 first_word_of command.Clear = word.Clear
 first_word_of command.Root = word.Root
 first_word_of (command.Look f t) = word.Look
@@ -25,7 +25,7 @@ first_word_of command.List = word.List
 -- the command of a first word and the numbers after it
 abbrev pub command_of : FirstWord → List ℕ → Command
 command_of (word.Open k) ns = command.Open k (slice_index ns 0)
-command_of word.Redraw ns = command.Redraw (slice_index ns 0) (slice_index ns 1) (slice_index ns 2) (slice_index ns 3)
+command_of word.Redraw ns = command.Redraw (record { from = slice_index ns 0; to = slice_index ns 1; minutes = slice_index ns 2; grade = slice_index ns 3 })
 command_of word.Clear ns = command.Clear
 command_of word.Root ns = command.Root
 command_of word.Look ns = command.Look (slice_index ns 0) (slice_index ns 1)

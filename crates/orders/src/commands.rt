@@ -6,6 +6,7 @@ ghost use Rattle.orders.specs.Vocabulary.{named_by};
 
 use crate::refusals::LineRefusal;
 use crate::vocabulary::{FirstWord, Kind};
+use theory::RedrawNumbers;
 use words::numbers::number;
 use words::split::Place;
 use words::tokens::{Token, token_at};
@@ -16,21 +17,13 @@ pub enum Command {
     /// make a book of this kind with so many sheets
     Open(Kind, u32),
     /// enter a redraw
-    Redraw {
-        from: u32,
-        to: u32,
-        minutes: u32,
-        grade: u32,
-    },
+    Redraw(RedrawNumbers),
     /// clear the book
     Clear,
     /// build the next root
     Root,
     /// answer a pair of sheets
-    Look {
-        from: u32,
-        to: u32,
-    },
+    Look { from: u32, to: u32 },
     /// list the table's entries
     List,
 }
@@ -42,7 +35,7 @@ impl From<Command> for FirstWord {
     fn from(command: Command) -> FirstWord {
         match command {
             Command::Open(kind, _) => FirstWord::Open(kind),
-            Command::Redraw { .. } => FirstWord::Redraw,
+            Command::Redraw(_) => FirstWord::Redraw,
             Command::Clear => FirstWord::Clear,
             Command::Root => FirstWord::Root,
             Command::Look { .. } => FirstWord::Look,
@@ -77,12 +70,12 @@ fn command_at(line: &[u8], word: FirstWord, rest: &[Place]) -> Result<Command, L
 {
     match (word, rest) {
         (FirstWord::Open(kind), [sheets]) => Ok(Command::Open(kind, number_at(line, 1, *sheets)?)),
-        (FirstWord::Redraw, [from, to, minutes, grade]) => Ok(Command::Redraw {
+        (FirstWord::Redraw, [from, to, minutes, grade]) => Ok(Command::Redraw(RedrawNumbers {
             from: number_at(line, 1, *from)?,
             to: number_at(line, 2, *to)?,
             minutes: number_at(line, 3, *minutes)?,
             grade: number_at(line, 4, *grade)?,
-        }),
+        })),
         (FirstWord::Clear, []) => Ok(Command::Clear),
         (FirstWord::Root, []) => Ok(Command::Root),
         (FirstWord::Look, [from, to]) => Ok(Command::Look {

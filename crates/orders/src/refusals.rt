@@ -17,6 +17,7 @@ pub enum LineRefusal {
 
 impl LineRefusal {
     /// The refusal's number.
+    // No discriminants, which a case that names a word rules out.
     pub fn number(self) -> u32
         ensures { result ≡ refusal_number self }
     {

@@ -4,6 +4,7 @@ use crate::refusals::LineRefusal;
 use crate::vocabulary::Kind;
 use std::alloc::{AllocError, Global};
 use std::test::Fail;
+use theory::RedrawNumbers;
 use words::split::words;
 
 /// What a line is read as.
@@ -20,12 +21,12 @@ fn reading(
 fn commands_are_read(rt: HostRuntime) -> Result<(), Fail> {
     let heap = rt.alloc();
     assert!(rt; reading(heap, "chain 8", false)? == Ok(Command::Open(Kind::Chain, 8)));
-    let redraw = Command::Redraw {
+    let redraw = Command::Redraw(RedrawNumbers {
         from: 0,
         to: 3,
         minutes: 40,
         grade: 5,
-    };
+    });
     assert!(rt; reading(heap, " redraw 0  3 0000000040 5 ", true)? == Ok(redraw));
     let look = Command::Look {
         from: 4_294_967_295,

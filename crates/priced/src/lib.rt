@@ -7,7 +7,7 @@ ghost use Rattle.theory.specs.Chains.{BestOver};
 ghost use Rattle.theory.specs.Books.{View, Stepped, Guarantee, NothingFits, enter as enter_call, clear as clear_call, root as root_call, look as look_call, list as list_call, cleared, enter_answer, built_answer, look_answer, list_answer};
 
 use measures::Measure;
-use theory::{Built, Entry, Refusal};
+use theory::{Built, Entry, RedrawNumbers, Refusal};
 
 /// A book of redraws under one measure (hub labels over a graph), by what is seen of it.
 pub trait PricedBook {
@@ -16,8 +16,8 @@ pub trait PricedBook {
     ghost view: { Self → View Self.Value };
 
     /// Enters a redraw, empties the table and opens the book; answers the number of redraws held.
-    fn enter(&mut self, from: u32, to: u32, minutes: u32, grade: u32) -> Result<u32, Refusal>
-        ensures { Stepped Self.Value.Measure.meaning (view self.old) (enter_call from to minutes grade) (enter_answer result) (view self.new) };
+    fn enter(&mut self, asked: RedrawNumbers) -> Result<u32, Refusal>
+        ensures { Stepped Self.Value.Measure.meaning (view self.old) (enter_call asked.from asked.to asked.minutes asked.grade) (enter_answer result) (view self.new) };
 
     /// Empties the table and opens the book; never refused.
     fn clear(&mut self)

@@ -5,6 +5,7 @@ ghost use Rattle.std.specs.Prelude.{◌≡◌, ℕ, ◌+◌, ◌<◌, ◌≤◌,
 ghost use Rattle.theory.specs.Measures.{Lawful, same as same_values};
 ghost use Rattle.theory.specs.Tables.{Table};
 ghost use Rattle.theory.specs.Order.{Sorted};
+ghost use Rattle.strips.specs.Strips.{SameSlice};
 ghost use Rattle.pruning.specs.Leaving.{Prunable, PrunedInto};
 ghost use Rattle.pruning.specs.Pruning.{covered_by, same_entry, stands_at};
 
@@ -43,13 +44,12 @@ fn stands<M: Measure>(table: &Strip<Entry<M>>, before: usize, entry: Entry<M>) -
     table.count < before && equals(entry, at(table.cells, table.count, entry))
 }
 
-/// Puts the entry after those in use, if there is a place, and answers whether it stood there before, among the first `before`.
+/// Puts the entry after those in use, if there is a place, and answers whether there is one and the entry stood there before, among the first `before`.
 fn keep<M: Measure>(table: &mut Strip<Entry<M>>, before: usize, entry: Entry<M>) -> bool
     ensures answer { table.old.count < length table.old.cells.now → result ≡ stands_at M.Measure.meaning table.old.cells.now before table.old.count entry }
     ensures cells { table.new.cells.now ≡ slice_set table.old.cells.now table.old.count entry }
     ensures count { table.old.count < length table.old.cells.now → table.new.count ≡ table.old.count + 1 }
-    ensures places { length table.new.cells.now ≡ length table.old.cells.now }
-    ensures same { table.new.cells.ghost_name ≡ table.old.cells.ghost_name }
+    ensures slice { SameSlice table.old table.new }
 {
     let stood = stands(table, before, entry);
     table.push(entry).is_ok() && stood
@@ -58,8 +58,7 @@ fn keep<M: Measure>(table: &mut Strip<Entry<M>>, before: usize, entry: Entry<M>)
 /// Puts the entries of the laid table that no sheet senior to both ends answers as well into the table, in order, in place of the present entries,
 /// and makes the rest of the table blank. Answers whether they are the present entries.
 pub fn prune<M: Measure>(laid: &[Entry<M>], table: &mut Strip<Entry<M>>) -> bool
-    ensures places { length table.new.cells.now ≡ length table.old.cells.now }
-    ensures same { table.new.cells.ghost_name ≡ table.old.cells.ghost_name }
+    ensures slice { SameSlice table.old table.new }
     ensures pruned { Lawful M.Measure.meaning → (n : ℕ) (g : Table M) (es : List (Entry M)) → Prunable M.Measure.meaning n g laid.now es table.old → PrunedInto M.Measure.meaning n g es (length table.old.cells.now) result table.new }
 {
     let before = table.count;

@@ -1,7 +1,7 @@
 // The root builder's turn: search, check the places, put the new entries in.
 ghost use Rattle.std.specs.Prelude.{◌≡◌, OnErr, length, replicate};
 ghost use Rattle.theory.specs.Measures.{Lawful};
-ghost use Rattle.strips.specs.Strips.{Lengthened, count_after};
+ghost use Rattle.strips.specs.Strips.{Lengthened, SameSlice, count_after};
 ghost use Rattle.roots.specs.Turns.{Buildable, BuiltRoot};
 
 use crate::gathering::gather_both;
@@ -21,8 +21,7 @@ fn put_in<M: Measure>(
     root: u16,
     sheets: u16,
 ) -> Result<(), Full>
-    ensures places { length table.new.cells.now ≡ length table.old.cells.now }
-    ensures same { table.new.cells.ghost_name ≡ table.old.cells.ghost_name }
+    ensures slice { SameSlice table.old table.new }
     ensures counted { OnErr result (table.new.count ≡ table.old.count) }
     ensures work { work.new ≡ replicate (length work.old) M.Measure.meaning.none }
     ensures marks { marks.new ≡ replicate (length marks.old) 0 }
@@ -51,8 +50,7 @@ pub fn grow<M: Measure>(
     root: u16,
     sheets: u16,
 ) -> Result<(), Full>
-    ensures places { length table.new.cells.now ≡ length table.old.cells.now }
-    ensures same { table.new.cells.ghost_name ≡ table.old.cells.ghost_name }
+    ensures slice { SameSlice table.old table.new }
     ensures counted { OnErr result (table.new.count ≡ table.old.count) }
     ensures work { work.new ≡ replicate (length work.old) M.Measure.meaning.none }
     ensures marks { marks.new ≡ replicate (length marks.old) 0 }

@@ -13,7 +13,7 @@ use strips::{at, put};
 use theory::{Entry, Redraw, Way};
 
 /// A search from the root one way, over the redraws of the register, held against the table.
-#[derive(Clone, Copy)]
+#[derive(Debug, Clone, Copy)]
 pub struct Search<'a, M> {
     /// Whether the search goes out from the root or in towards it.
     pub way: Way,
@@ -27,6 +27,7 @@ pub struct Search<'a, M> {
     pub sheets: u16,
 }
 
+// Marks are bytes and no enum, by the rules of the book: the strip is lent as bytes, and zero between calls.
 /// The mark of a sheet that is not settled yet.
 const UNSETTLED: u8 = 0;
 

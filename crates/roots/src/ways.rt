@@ -5,7 +5,7 @@ ghost use Rattle.theory.specs.Order.{Sorted};
 ghost use Rattle.theory.specs.Searches.{facing, facing_redraw, facing_table};
 
 use measures::Measure;
-use tables::{answer, in_order};
+use tables::{answer, in_order, joined};
 use theory::{Entry, Redraw, Way};
 
 /// The ends of a redraw: the one that a search reaches first, and the one to which the redraw leads it.
@@ -20,8 +20,7 @@ pub fn ends(way: Way, redraw: Redraw) -> (u16, u16)
 pub fn extend<M: Measure>(way: Way, value: M, redraw: Redraw) -> M
     ensures { result ≡ (facing way M.Measure.meaning).join value ((facing way M.Measure.meaning).worth (facing_redraw way redraw)) }
 {
-    let (front, back) = in_order(way, value, M::worth(redraw));
-    front.join(back)
+    joined(way, value, M::worth(redraw))
 }
 
 /// What the table already answers between the root and a sheet.

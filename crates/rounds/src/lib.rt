@@ -4,7 +4,7 @@
 ghost use Rattle.std.specs.Prelude.{◌≡◌, ℕ, List, length, replicate};
 ghost use Rattle.theory.specs.Measures.{Lawful};
 ghost use Rattle.theory.specs.Order.{Sorted};
-ghost use Rattle.strips.specs.Strips.{Lengthened};
+ghost use Rattle.strips.specs.Strips.{Lengthened, SameSlice};
 ghost use Rattle.generation.specs.Laying.{next_generated, Takeable};
 ghost use Rattle.rounds.specs.Laying.{next_round, Registered, Roundable, LaidRound};
 
@@ -35,8 +35,7 @@ fn turn<M: Measure>(
     work: &mut [M],
     sheets: u16,
 ) -> Result<bool, Full>
-    ensures places { length table.new.cells.now ≡ length table.old.cells.now }
-    ensures same { table.new.cells.ghost_name ≡ table.old.cells.ghost_name }
+    ensures slice { SameSlice table.old table.new }
     ensures spare { Lengthened spare.old spare.new }
     ensures work { work.new ≡ replicate (length work.old) M.Measure.meaning.none }
     ensures laid { Lawful M.Measure.meaning → (es : List (Entry M)) → Roundable M.Measure.meaning sheets register.entry es table.old spare.old work.old → LaidRound M.Measure.meaning sheets (next_round M.Measure.meaning sheets register.entry es) es table.old result table.new }
@@ -56,8 +55,7 @@ pub fn lay<M: Measure>(
     work: &mut [M],
     sheets: u16,
 ) -> Result<bool, Full>
-    ensures places { length table.new.cells.now ≡ length table.old.cells.now }
-    ensures same { table.new.cells.ghost_name ≡ table.old.cells.ghost_name }
+    ensures slice { SameSlice table.old table.new }
     ensures spare_same { spare.new.cells.ghost_name ≡ spare.old.cells.ghost_name }
     ensures work { work.new ≡ replicate (length work.old) M.Measure.meaning.none }
     ensures spare { (es : List (Entry M)) → Roundable M.Measure.meaning sheets register.entry es table.old spare.old work.old → (spare.new.cells.now ≡ spare.old.cells.now) × (spare.new.count ≡ spare.old.count) }

@@ -14,7 +14,7 @@ use Rattle.sessions.specs.declared.attend.Session.{Session}
 -- the call that a command asks for; an opening asks for none
 abbrev pub call_of : Command → Option Call
 call_of (command.Open k n) = None
-call_of (command.Redraw f t m g) = Some (enter f t m g)
+call_of (command.Redraw asked) = Some (enter asked.from asked.to asked.minutes asked.grade)
 call_of command.Clear = Some clear
 call_of command.Root = Some root
 call_of (command.Look f t) = Some (look f t)

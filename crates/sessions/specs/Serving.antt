@@ -83,7 +83,7 @@ pub record Served {V : Type 0} (m : Meaning V) (shown : V → Option (List ℕ))
 abbrev pub opening_of : ℕ → Reading → Option Opening
 opening_of number None = None
 opening_of number (Some (Ok (command.Open kind sheets))) = Some (record { number = number; kind = kind; sheets = sheets })
-opening_of number (Some (Ok (command.Redraw f t m g))) = None
+opening_of number (Some (Ok (command.Redraw asked))) = None
 opening_of number (Some (Ok command.Clear)) = None
 opening_of number (Some (Ok command.Root)) = None
 opening_of number (Some (Ok (command.Look f t))) = None
@@ -94,7 +94,7 @@ opening_of number (Some (Err e)) = None
 abbrev pub waiting_text : ℕ → Reading → List ℕ
 waiting_text number None = []
 waiting_text number (Some (Ok (command.Open kind sheets))) = []
-waiting_text number (Some (Ok (command.Redraw f t m g))) = []
+waiting_text number (Some (Ok (command.Redraw asked))) = []
 waiting_text number (Some (Ok command.Clear)) = []
 waiting_text number (Some (Ok command.Root)) = []
 waiting_text number (Some (Ok (command.Look f t))) = []

@@ -1,24 +1,14 @@
 // A session: a book, and one command after another carried out on it and answered.
-ghost use Rattle.std.specs.Prelude.{◌≡◌, ◌++◌, string_bytes, OnOk, Some};
-ghost use Rattle.answers.specs.Printed.{refused_line, entry_line};
-ghost use Rattle.answers.specs.declared.Layer.TheVariants as layers;
+ghost use Rattle.std.specs.Prelude.{string_bytes, OnOk, Some};
+ghost use Rattle.answers.specs.Printed.{entry_line};
 ghost use Rattle.sessions.specs.Attending.{ToldAs, Keeps, Answered, entries_text, call_of};
 ghost use Rattle.theory.specs.Books.{enter as enter_call, clear as clear_call, root as root_call, look as look_call, list as list_call};
-ghost use Rattle.theory.specs.Refusals.{refusal_number};
 
-use answers::{Layer, refusal_code};
 use orders::commands::Command;
 use priced::PricedBook;
 use std::alloc::AllocError;
 use std::fmt::Display;
-use theory::{Entry, Refusal};
-
-/// Prints that the book refuses the line.
-fn turned_away(out: &mut String, number: usize, refusal: Refusal) -> Result<(), AllocError>
-    ensures { OnOk result (string_bytes out.new ≡ string_bytes out.old ++ refused_line number layers.Book 0 (refusal_number refusal)) }
-{
-    answers::refused(out, number, Layer::Book, 0, refusal_code(refusal))
-}
+use theory::{Entry, RedrawNumbers};
 
 /// Prints an entry of the table.
 fn print_entry<V: Display + Copy>(entry: Entry<V>, out: &mut String) -> Result<(), AllocError>
@@ -61,20 +51,13 @@ where
     B::Value: Display,
 {
     /// Enters a redraw.
-    fn enter(
-        &mut self,
-        number: usize,
-        from: u32,
-        to: u32,
-        minutes: u32,
-        grade: u32,
-    ) -> Result<(), AllocError>
-        ensures answers { Answered B.view B.Value.Measure.meaning B.Value.Display.output number (Some (enter_call from to minutes grade)) self.old self.new result }
+    fn enter(&mut self, number: usize, asked: RedrawNumbers) -> Result<(), AllocError>
+        ensures answers { Answered B.view B.Value.Measure.meaning B.Value.Display.output number (Some (enter_call asked.from asked.to asked.minutes asked.grade)) self.old self.new result }
         ensures keeps { Keeps self.old self.new }
     {
-        match self.book.enter(from, to, minutes, grade) {
+        match self.book.enter(asked) {
             Ok(held) => answers::redraw(self.out, held as usize),
-            Err(refusal) => turned_away(self.out, number, refusal),
+            Err(refusal) => answers::refused(self.out, number, refusal.into()),
         }
     }
 
@@ -94,7 +77,7 @@ where
     {
         match self.book.root() {
             Ok(built) => answers::root(self.out, built.number as usize, built.progress),
-            Err(refusal) => turned_away(self.out, number, refusal),
+            Err(refusal) => answers::refused(self.out, number, refusal.into()),
         }
     }
 
@@ -108,7 +91,7 @@ where
                 let text = format!(in *self.out.allocator(); "{value}")?;
                 answers::look(self.out, text.as_str())
             }
-            Err(refusal) => turned_away(self.out, number, refusal),
+            Err(refusal) => answers::refused(self.out, number, refusal.into()),
         }
     }
 
@@ -119,7 +102,7 @@ where
     {
         match self.book.list() {
             Ok(entries) => print_entries(entries, self.out),
-            Err(refusal) => turned_away(self.out, number, refusal),
+            Err(refusal) => answers::refused(self.out, number, refusal.into()),
         }
     }
 
@@ -130,12 +113,7 @@ where
     {
         match command {
             Command::Open(_, _) => Ok(()),
-            Command::Redraw {
-                from,
-                to,
-                minutes,
-                grade,
-            } => self.enter(number, from, to, minutes, grade),
+            Command::Redraw(asked) => self.enter(number, asked),
             Command::Clear => self.clear(number),
             Command::Root => self.root(number),
             Command::Look { from, to } => self.look(number, from, to),

@@ -45,6 +45,7 @@ impl<'a> Lines<'a> {
     }
 }
 
+/// The lines of an input, one after another.
 impl<'a> Iterator for Lines<'a> {
     type Item = Line<'a>;
 

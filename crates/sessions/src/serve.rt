@@ -1,12 +1,11 @@
 // A session: every line of the input is read, carried out and answered.
-ghost use Rattle.std.specs.Prelude.{◌≡◌, [], ◌++◌, IfOk, string_bytes, OnOk};
+ghost use Rattle.std.specs.Prelude.{◌≡◌, [], IfOk, string_bytes, OnOk};
 ghost use Rattle.sessions.specs.Attending.{Keeps};
 ghost use Rattle.sessions.specs.InputLines.{ahead};
-ghost use Rattle.sessions.specs.Serving.{ReadAs, refusal_text, LineServed, Served, LineAwaited, OpeningAwaited};
+ghost use Rattle.sessions.specs.Serving.{ReadAs, LineServed, Served, LineAwaited, OpeningAwaited};
 
 use crate::attend::Session;
 use crate::lines::{Line, Lines};
-use answers::Layer;
 use orders::commands::{Command, read};
 use orders::refusals::LineRefusal;
 use orders::vocabulary::Kind;
@@ -24,13 +23,6 @@ pub struct Opening {
     pub kind: Kind,
     /// How many sheets the book is to have.
     pub sheets: u32,
-}
-
-/// Prints that the line language refuses the line.
-fn line_refused(out: &mut String, number: usize, refusal: LineRefusal) -> Result<(), AllocError>
-    ensures { OnOk result (string_bytes out.new ≡ string_bytes out.old ++ refusal_text number refusal) }
-{
-    answers::refused(out, number, Layer::Line, refusal.word(), refusal.number())
 }
 
 /// What a line asks for, where an opening was accepted before or not; none where the line has no words.
@@ -62,7 +54,7 @@ where
         };
         match reading {
             Ok(command) => self.attend(line.number, command),
-            Err(refusal) => line_refused(self.out, line.number, refusal),
+            Err(refusal) => answers::refused(self.out, line.number, refusal.into()),
         }
     }
 
@@ -73,7 +65,7 @@ where
         ensures served { OnOk result (Served B.Value.Measure.meaning B.Value.Display.output lines.old.number (ahead lines.old.input.now lines.old.place) (B.view self.old.book.now) (B.view self.new.book.now) (string_bytes self.old.out.now) (string_bytes self.new.out.now)) }
         ensures keeps { Keeps self.old self.new }
     {
-        // a `for` over a lent cursor would not tell where it stands afterwards
+        // A `for` over a lent cursor would not tell where it stands afterwards
         while let Some(line) = lines.next() {
             self.serve_line(line)?;
         }
@@ -94,7 +86,7 @@ fn open_line(line: Line, out: &mut String) -> Result<Option<Opening>, AllocError
             }))
         }
         Some(Err(refusal)) => {
-            line_refused(out, line.number, refusal)?;
+            answers::refused(out, line.number, refusal.into())?;
             Ok(None)
         }
         _ => Ok(None),
@@ -106,7 +98,7 @@ pub fn await_opening(lines: &mut Lines, out: &mut String) -> Result<Option<Openi
     ensures input { lines.new.input.now ≡ lines.old.input.now }
     ensures awaited { IfOk result (λ found. OpeningAwaited lines.old.number (ahead lines.old.input.now lines.old.place) found (ahead lines.new.input.now lines.new.place) lines.new.number (string_bytes out.old) (string_bytes out.new)) }
 {
-    // a `for` over a lent cursor would not tell where it stands afterwards
+    // A `for` over a lent cursor would not tell where it stands afterwards
     while let Some(line) = lines.next() {
         if let Some(opening) = open_line(line, out)? {
             return Ok(Some(opening));

@@ -24,6 +24,10 @@ abbrev pub Added : {X : Type 0} → List X → ℕ → List X → Option ℕ →
 Added xs place es None ys = length xs < place + length es
 Added xs place es (Some end) ys = (end ≡ place + length es) × (end ≤ length xs) × (ys ≡ paste xs place es (length es))
 
+-- the strip is over the same slice as before, with as many places
+abbrev pub SameSlice : {T : Type 0} → Strip T → Strip T → Type 0
+SameSlice entry exit = (exit.cells.ghost_name ≡ entry.cells.ghost_name) × (length exit.cells.now ≡ length entry.cells.now)
+
 -- the strip after records were put behind those in use: the slice is the same, and each place that is not in use stays blank
 pub record Lengthened {T : Type 0} (entry exit : Strip T) : Type 0 where
   pub same : exit.cells.ghost_name ≡ entry.cells.ghost_name

@@ -55,6 +55,7 @@ fn cut<T: Copy>(cells: &mut [T], from: usize, to: usize, blank: T)
 pub struct Full;
 
 /// A lent slice of records, of which the first `count` are in use.
+// A slice with a count and no `Vec`, by the rules of the book: it allocates nothing and keeps to what was lent.
 #[derive(Drop)]
 pub struct Strip<'a, T> {
     /// The places, used and blank.

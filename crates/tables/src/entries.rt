@@ -1,7 +1,7 @@
 // How an entry is written: the blank one, and the one between two sheets, out from the first or in to it.
 ghost use Rattle.std.specs.Prelude.{◌≡◌};
 ghost use Rattle.theory.specs.Order.{blank_entry as blank_spec};
-ghost use Rattle.theory.specs.Searches.{new_entry};
+ghost use Rattle.theory.specs.Searches.{facing, new_entry};
 ghost use Rattle.tables.specs.SheetLists.{ordered};
 
 use measures::Measure;
@@ -26,6 +26,14 @@ pub fn in_order<T>(way: Way, near: T, far: T) -> (T, T)
         Way::Out => (near, far),
         Way::In => (far, near),
     }
+}
+
+/// Two values joined along the redraws, the near one in front on the way out.
+pub fn joined<M: Measure>(way: Way, near: M, far: M) -> M
+    ensures { result ≡ (facing way M.Measure.meaning).join near far }
+{
+    let (front, back) = in_order(way, near, far);
+    front.join(back)
 }
 
 /// The entry that leads out from the sheet `near` to the sheet `far`, or in from there.

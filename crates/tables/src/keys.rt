@@ -14,6 +14,7 @@ const JUNIOR_STEP: u64 = 131072;
 const IN_STEP: u64 = 65536;
 
 /// The key of an ordered pair of sheets: junior sheet, then out before in, then senior sheet.
+// One number and no struct with a derived order: one comparison orders two entries, and the theorems count with it.
 pub fn key(from: u16, to: u16) -> u64
     ensures { result ≡ key_spec from to }
 {

@@ -5,6 +5,6 @@ mod entries;
 mod keys;
 mod lookups;
 
-pub use entries::{blank_entry, entry_between, in_order};
+pub use entries::{blank_entry, entry_between, in_order, joined};
 pub use keys::{first_at, key, list_of};
 pub use lookups::{answer, best_over_seniors, find, walk};

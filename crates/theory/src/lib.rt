@@ -11,6 +11,19 @@ pub struct Redraw {
     pub grade: u8,
 }
 
+/// The numbers of a redraw as they come in, before the book checks them.
+#[derive(Debug, Clone, Copy, PartialEq, Eq)]
+pub struct RedrawNumbers {
+    /// The sheet that is redrawn.
+    pub from: u32,
+    /// The sheet that it is redrawn as.
+    pub to: u32,
+    /// How many minutes that takes.
+    pub minutes: u32,
+    /// The line grade that it leaves.
+    pub grade: u32,
+}
+
 /// An entry of a table (a hub label): the value of redrawing one sheet as another.
 #[derive(Debug, Clone, Copy, PartialEq, Eq)]
 pub struct Entry<V> {

@@ -24,6 +24,7 @@ pub fn words(heap: Global, line: &[u8]) -> Result<Vec<Place>, AllocError>
     ensures only { IfOk result (λ found. Only line.now found.items) }
 {
     let mut found = Vec::new(heap);
+    // No `split`: a word is known by its place, which the parts of a split do not tell.
     let mut start = next_other(line, SPACE, 0);
     while start < line.len() {
         let end = next_at(line, SPACE, start);

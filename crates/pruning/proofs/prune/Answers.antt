@@ -7,8 +7,8 @@ pub loop-next-preserved : goal.loop-next-preserved
 loop-next-preserved g c =
     elim c.if-not-goes.branch [
       | then-not-goes w ↦ rw (w.table-is, w.same-is) (
-        w.keep-same.ensures.places ∙ c.loop-next.invariant.0,
-        w.keep-same.ensures.same ∙ c.loop-next.invariant.1,
+        w.keep-same.ensures.slice.1 ∙ c.loop-next.invariant.0,
+        w.keep-same.ensures.slice.0 ∙ c.loop-next.invariant.1,
         λ P.
             kept_on g.M.Measure.meaning c.args.laid.now c.args.table.now.cells.now c.args.table.now.count P c.loop-next.next-index c.loop-next.table.cells.now c.loop-next.table.count c.loop-next.same c.next-item.result
             (c.loop-next.invariant.2 P) c.loop-next.invariant.0 c.loop-next-test.true c.next-item.is (sym (c.covered-goes.ensures P.sheets P.small P.in_order) ∙ w.if-not-goes.true)

@@ -1,8 +1,6 @@
-use Rattle.std.proofs.Common.{ℕ, List, ◌++◌, string_bytes, ap, ◌∙◌}
+use Rattle.std.proofs.Common.{ap, arith}
 use Rattle.sessions.specs.declared.lines.Lines.{Lines}
 use Rattle.sessions.specs.InputLines.{ahead}
-use Rattle.answers.specs.declared.Layer.TheVariants.{Book}
-use Rattle.answers.specs.Printed.{refused_line}
 use Rattle.desk.proofs.Sessions.{where_ok, where_err, session_none, session_served, session_on, session_shorter}
 use Rattle.desk.proofs.run.run.Goals as goal
 
@@ -17,9 +15,8 @@ loop-out-smaller c =
 pub loop-out-preserved : goal.loop-out-preserved
 loop-out-preserved c after S =
     let tried = where_err _ _ _ _ c.in-Err.is c.in_ok-open.ensures in
-    let line : ℕ → List ℕ = λ code. refused_line c.in-Some.opening.number Book 0 code in
     c.loop-out.invariant after (session_on _ _ c.in_ok-opening.field-0 _ _ _ _ c.in_ok-opening.ensures.awaited c.in-Some.opening c.in-Some.is c.in-Err.refusal tried.0
-    _ (c.in_ok-refused-in-Err.ensures ∙ ap (λ s. string_bytes s ++ line c.refusal_code.result) tried.2 ∙ ap (λ k. string_bytes c.await_opening.new.out ++ line k) c.refusal_code.ensures)
+    _ (grind (arith, c.in_ok-refused-in-Err.ensures, tried.2, c.into.ensures))
     _ _ (ap (λ (x : Lines). x.number) tried.1) (ap (λ (x : Lines). ahead x.input.now x.place) tried.1) after S)
 
 pub returns : goal.returns

@@ -24,4 +24,4 @@ returns-clause-built g c L B z =
     let w : c.in_ok-middle.middle ≤ length c.items-found.result.now = middle_within _ L _ _ _ c.args.table.now _ _ _ B outs ins ro ri c.in_ok-middle.middle c.gather_both.new.spare both found c.items-found.ensures in
     put_in _ L _ _ _ c.args.table.now _ _ _ B outs ins ro ri c.in_ok-middle.middle c.gather_both.new.spare both found c.items-found.ensures (omega arith)
     c.part.result.now c.part-2.result.now (c.part.ensures.there (omega arith) w) (c.part-2.ensures.there w (omega arith))
-    c.merge.new.table c.merge-2.new.table c.merge.ensures.places c.merge.ensures.count c.merge.ensures.rest c.merge.ensures.merged c.merge-2.ensures.count c.merge-2.ensures.rest c.merge-2.ensures.merged
+    c.merge.new.table c.merge-2.new.table c.merge.ensures.slice.1 c.merge.ensures.count c.merge.ensures.rest c.merge.ensures.merged c.merge-2.ensures.count c.merge-2.ensures.rest c.merge-2.ensures.merged
