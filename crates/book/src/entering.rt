@@ -14,6 +14,7 @@ use theory::{Redraw, RedrawNumbers, Refusal};
 const MOST_MINUTES: u32 = 65535;
 
 /// The cleanest line grade.
+// It bounds the number that comes in; `CLEANEST` of measures is the value of the empty chain.
 const CLEANEST_GRADE: u32 = 5;
 
 impl<'r, 't, 's, 'w, 'm, M: Measure> Book<'r, 't, 's, 'w, 'm, M> {
@@ -31,6 +32,7 @@ impl<'r, 't, 's, 'w, 'm, M: Measure> Book<'r, 't, 's, 'w, 'm, M> {
         if !(1..=CLEANEST_GRADE).contains(&asked.grade) {
             return Err(Refusal::Grade);
         }
+        // Tested above, so that `as` cuts nothing.
         Ok(Redraw {
             from,
             to,

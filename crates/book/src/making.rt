@@ -49,6 +49,7 @@ pub fn check<M: Measure>(
     if work.len() != sheets as usize || marks.len() != sheets as usize {
         return Err(Refusal::WorkPlaces);
     }
+    // Tested above, so that `as` cuts nothing.
     Ok(sheets as u16)
 }
 

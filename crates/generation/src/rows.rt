@@ -15,6 +15,7 @@ use tables::entry_between;
 use theory::Entry;
 
 /// Makes the work strip blank.
+// A name for the one blanking that two functions make.
 pub fn blank<M: Measure>(work: &mut [M])
     ensures { work.new ≡ replicate (length work.old) M.Measure.meaning.none }
 {
@@ -40,6 +41,7 @@ impl Row {
     }
 
     /// Puts the entries of the row after those of the spare strip; refused if they do not fit.
+    // Like `collect` of roots in its three lines alone: another sheet is asked for, by another test. It goes by sheets, of whose numbers entries are made.
     fn collect<M: Measure>(self, work: &[M], spare: &mut Strip<Entry<M>>) -> Result<(), Full>
         ensures kept { Lengthened spare.old spare.new }
         ensures put { Put spare.old (row_below M.Measure.meaning self.way self.junior work.now self.junior) (is_ok result) spare.new }

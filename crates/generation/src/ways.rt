@@ -15,6 +15,7 @@ pub struct Row {
 }
 
 impl Row {
+    // As `ends` of roots has it for a redraw: one line each, shorter than a trait for both.
     /// The ends of an entry: the one at which the row looks for its junior sheet, and the one to which the entry leads it.
     pub fn ends<M: Copy>(self, entry: Entry<M>) -> (u16, u16)
         ensures near { result.0 ≡ near_end self.way entry }

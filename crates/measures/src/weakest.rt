@@ -9,7 +9,7 @@ use std::fmt;
 use theory::Redraw;
 
 /// The grade below all line grades, which stands for none.
-// A number and no `None`, by the office's rules.
+// A number and no `None`, by the office's rules: none is the grade below the poorest.
 const NONE: u8 = 0;
 
 /// The lowest grade of a chain, or none.

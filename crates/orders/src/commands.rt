@@ -88,6 +88,7 @@ fn command_at(line: &[u8], word: FirstWord, rest: &[Place]) -> Result<Command, L
 }
 
 /// The command of the line whose words are at the places, where an opening was accepted before or not.
+// `opened` is a plain yes or no of the rules: whether an opening was accepted before.
 pub fn read(line: &[u8], places: &[Place], opened: bool) -> Result<Command, LineRefusal>
     ensures { result ≡ read_as line.now places.now opened }
 {

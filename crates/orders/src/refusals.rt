@@ -30,6 +30,7 @@ impl LineRefusal {
     }
 
     /// The first faulty word, counted from 0.
+    // One case holds it, and the others name the first word.
     pub fn word(self) -> usize
         ensures { result ≡ faulty_word self }
     {

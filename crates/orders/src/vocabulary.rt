@@ -37,6 +37,7 @@ const ALL: [FirstWord; 8] = [
 
 impl FirstWord {
     /// The word as it is read and written, by which it is known again.
+    // One match of fixed texts, from which `Display` prints and `named` finds.
     pub fn text(self) -> &'static str
         ensures spelled { result.now ≡ spelling self }
         ensures known { named_by (spelling self) ≡ Some self }
@@ -54,6 +55,7 @@ impl FirstWord {
     }
 
     /// How many numbers follow the word.
+    // Public, with a promise of its own; `command_at` has the counts as the shapes of its patterns.
     pub fn numbers(self) -> usize
         ensures { result ≡ numbers_after self }
     {

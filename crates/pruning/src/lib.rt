@@ -44,6 +44,7 @@ fn stands<M: Measure>(table: &Strip<Entry<M>>, before: usize, entry: Entry<M>) -
     table.count < before && equals(entry, at(table.cells, table.count, entry))
 }
 
+// The answer is a plain yes or no; `prune` has places for all, so `Full` cannot come there.
 /// Puts the entry after those in use, if there is a place, and answers whether there is one and the entry stood there before, among the first `before`.
 fn keep<M: Measure>(table: &mut Strip<Entry<M>>, before: usize, entry: Entry<M>) -> bool
     ensures answer { table.old.count < length table.old.cells.now → result ≡ stands_at M.Measure.meaning table.old.cells.now before table.old.count entry }
@@ -57,6 +58,7 @@ fn keep<M: Measure>(table: &mut Strip<Entry<M>>, before: usize, entry: Entry<M>)
 
 /// Puts the entries of the laid table that no sheet senior to both ends answers as well into the table, in order, in place of the present entries,
 /// and makes the rest of the table blank. Answers whether they are the present entries.
+// A plain yes or no; how many there are is the strip's count.
 pub fn prune<M: Measure>(laid: &[Entry<M>], table: &mut Strip<Entry<M>>) -> bool
     ensures slice { SameSlice table.old table.new }
     ensures pruned { Lawful M.Measure.meaning → (n : ℕ) (g : Table M) (es : List (Entry M)) → Prunable M.Measure.meaning n g laid.now es table.old → PrunedInto M.Measure.meaning n g es (length table.old.cells.now) result table.new }

@@ -3,7 +3,7 @@ ghost use Rattle.std.specs.Prelude.{◌≡◌, ◌≤◌, ◌&&◌, length, ◌=
 ghost use Rattle.theory.specs.Searches.{fresh_at, fresh_below};
 ghost use Rattle.strips.specs.Strips.{Added, Lengthened, count_after};
 
-use crate::search::{RELAXED, Search};
+use crate::search::{PRUNED, RELAXED, Search};
 use measures::Measure;
 use strips::{Full, Strip, at};
 use tables::entry_between;
@@ -14,7 +14,7 @@ impl<M: Measure> Search<'_, M> {
     fn found(&self, sheet: u16, marks: &[u8]) -> bool
         ensures { result ≡ (nat_lt self.now.root sheet && slice_index_or marks.now sheet 1 == 2) }
     {
-        self.root < sheet && at(marks, sheet as usize, 1) == RELAXED
+        self.root < sheet && at(marks, sheet as usize, PRUNED) == RELAXED
     }
 
     /// Puts the sheet's new entry, if it has one, into the spare strip; refuses if no place is left.
@@ -36,6 +36,7 @@ impl<M: Measure> Search<'_, M> {
     }
 
     /// Puts the new entries, by rising sheet, into the spare strip; refuses if they do not fit.
+    // Like `collect` of generation in its three lines alone: another sheet is asked for, by another test. It goes by sheets, of whose numbers entries are made.
     pub fn collect(&self, work: &[M], marks: &[u8], spare: &mut Strip<Entry<M>>) -> Result<(), Full>
         ensures strip { Lengthened spare.old spare.new }
         ensures cases { spare.old.count ≤ length spare.old.cells.now → Added spare.old.cells.now spare.old.count (fresh_below M.Measure.meaning self.now.way self.now.root work.now marks.now self.now.sheets) (count_after result spare.new) spare.new.cells.now }

@@ -32,7 +32,7 @@ pub struct Search<'a, M> {
 const UNSETTLED: u8 = 0;
 
 /// The mark of a settled sheet that the table answers as well.
-const PRUNED: u8 = 1;
+pub const PRUNED: u8 = 1;
 
 /// The mark of a settled sheet whose redraws were relaxed.
 pub const RELAXED: u8 = 2;
@@ -98,6 +98,7 @@ impl<M: Measure> Search<'_, M> {
     }
 
     /// Settles the sheet: marks it, and relaxes its redraws unless the table answers it as well.
+    // `pruned` is a plain yes or no, the answer of `answered`.
     fn settle(&self, sheet: u16, pruned: bool, work: &mut [M], marks: &mut [u8])
         ensures work { work.new ≡ settled_work (facing self.now.way M.Measure.meaning) pruned (facing_redraws self.now.way self.now.register.now) sheet work.old }
         ensures marks { marks.new ≡ settled_marks pruned sheet marks.old }

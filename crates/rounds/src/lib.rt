@@ -48,6 +48,7 @@ fn turn<M: Measure>(
 /// The table has the present entries, and afterwards those that the round leaves. Answers whether they are the same;
 /// refused, with the table untouched, if the generated table, before pruning, exceeds the places.
 /// Spare and work are lent blank and are blank again, on every way out.
+// The `bool` is a plain yes or no; how many entries there are is the strip's count.
 pub fn lay<M: Measure>(
     register: Option<&[Redraw]>,
     table: &mut Strip<Entry<M>>,

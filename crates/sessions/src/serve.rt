@@ -26,6 +26,7 @@ pub struct Opening {
 }
 
 /// What a line asks for, where an opening was accepted before or not; none where the line has no words.
+// `opened` is a plain yes or no of the rules, which goes to `read` as it is.
 fn asked(
     heap: Global,
     text: &[u8],

@@ -12,6 +12,7 @@ pub fn number(digits: &[u8]) -> Option<u32>
     if digits.is_empty() || digits.len() > MOST_DIGITS {
         return None;
     }
+    // No fold: it has no bound from which to see that the number does not run over.
     let mut value = 0u64;
     for digit in digits {
         if !digit.is_ascii_digit() {

@@ -11,6 +11,7 @@ pub enum Token<'a> {
     Number(&'a [u8]),
 }
 
+// As `part` of strips has it for two places; this crate rests on no other.
 /// The bytes of the line at the place, or none where the place is not within the line.
 fn part<'a>(line: &'a [u8], place: Place) -> &'a [u8]
     ensures { result.now ≡ word_at line.now place }
