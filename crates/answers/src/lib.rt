@@ -22,15 +22,25 @@ pub enum Layer {
     Book,
 }
 
+impl Layer {
+    /// The layer as it is printed.
+    // One match of fixed texts, from which `Display` prints.
+    pub fn text(self) -> &'static str
+        ensures { result.now ≡ layer_text self }
+    {
+        match self {
+            Layer::Line => "line",
+            Layer::Book => "book",
+        }
+    }
+}
+
 /// The layer as it is printed.
 impl fmt::Display for Layer {
     ghost output = { λ l. Some (layer_text l) };
 
     fn fmt<W: fmt::Write>(&self, f: &mut fmt::Formatter<W>) -> fmt::Result {
-        f.write_str(match self {
-            Layer::Line => "line",
-            Layer::Book => "book",
-        })
+        f.write_str(self.text())
     }
 }
 

@@ -23,9 +23,14 @@ use Rattle.theory.proofs.Listings as listings
 use Rattle.theory.proofs.SortedTables as sorted
 use Rattle.generation.specs.declared.source.Source.{Source}
 use Rattle.generation.specs.declared.source.Source.TheVariants.{Redraws, Entries}
-use Rattle.generation.specs.Laying.{next_generated, Takeable}
+use Rattle.generation.specs.Laying.{next_generated, Relaxable, Takeable}
 use Rattle.generation.specs.Offers.{near_end, far_end, redraw_entry, EntryOffers, JoinOffers, AnyOffers, PresentOffers, RowOffers, Improved, Relaxed}
 use Rattle.generation.proofs.SheetLists.{list_ends, ends_list}
+
+-- what a round can take serves to relax a row
+pub relaxable : {V : Type 0} (m : Meaning V) (n : ℕ) (source : Source V) → Takeable m n source → Relaxable source
+relaxable m n (Redraws rs) t = tt
+relaxable m n (Entries es) t = t.rises
 
 -- v is the best offer: not worse than any, and none or one of them
 pub record BestOffer {V : Type 0} (m : Meaning V) (offers : V → Type 0) (v : V) : Type 0 where

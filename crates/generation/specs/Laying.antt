@@ -4,9 +4,10 @@ use Rattle.theory.specs.declared.Entry.{Entry}
 use Rattle.theory.specs.Measures.{Meaning}
 use Rattle.theory.specs.Chains.{Register}
 use Rattle.theory.specs.Tables.{Table, listed, held}
-use Rattle.theory.specs.Order.{blank_entry, Sorted}
+use Rattle.theory.specs.Order.{blank_entry, key_of, Sorted}
 use Rattle.theory.specs.Rounds.{first_generated, generated}
 use Rattle.theory.specs.Books.{padded}
+use Rattle.tables.specs.Places.{Rising}
 use Rattle.strips.specs.declared.Strip.{Strip}
 use Rattle.generation.specs.declared.source.Source.{Source}
 use Rattle.generation.specs.declared.source.Source.TheVariants.{Redraws, Entries}
@@ -15,6 +16,11 @@ use Rattle.generation.specs.declared.source.Source.TheVariants.{Redraws, Entries
 abbrev pub next_generated : {V : Type 0} → Meaning V → ℕ → Source V → Table V
 next_generated m n (Redraws rs) = first_generated m rs.now
 next_generated m n (Entries es) = generated m n (held m es.now)
+
+-- what a row can be relaxed from: any redraws, or entries whose keys rise
+abbrev pub Relaxable : {V : Type 0} → Source V → Type 0
+Relaxable (Redraws rs) = Unit {0}
+Relaxable (Entries es) = Rising key_of es.now
 
 -- what a round over n sheets can take: a register of n sheets, or entries that stand in order
 abbrev pub Takeable : {V : Type 0} → Meaning V → ℕ → Source V → Type 0

@@ -1,15 +1,15 @@
 // Relaxing: the work strip holds, for each senior sheet, the best value offered so far to the pair of the junior sheet and that one.
-ghost use Rattle.std.specs.Prelude.{◌≡◌, ℕ};
+ghost use Rattle.std.specs.Prelude.{◌≡◌};
 ghost use Rattle.theory.specs.Order.{key_of};
 ghost use Rattle.tables.specs.Places.{Rising};
-ghost use Rattle.generation.specs.Laying.{Takeable};
+ghost use Rattle.generation.specs.Laying.{Relaxable};
 ghost use Rattle.generation.specs.Offers.{offered, relaxed_entry, relaxed_join, redraw_entry, Relaxed, AnyOffers, EntryOffers, JoinOffers, PresentOffers, RowOffers};
 
 use crate::source::Source;
 use crate::ways::Row;
 use measures::Measure;
 use strips::{at, put};
-use tables::{joined, list_of};
+use tables::joined;
 use theory::{Entry, Redraw};
 
 /// Offers a value to a sheet, which keeps the better one.
@@ -38,9 +38,8 @@ impl Row {
     fn relax_entry<M: Measure>(self, entry: Entry<M>, work: &mut [M])
         ensures { work.new ≡ relaxed_entry M.Measure.meaning self.way self.junior entry work.old }
     {
-        let (near, far) = self.ends(entry);
-        if near == self.junior && far < self.junior {
-            offer(work, far, entry.value);
+        if self.near(entry) == self.junior && self.far(entry) < self.junior {
+            offer(work, self.far(entry), entry.value);
         }
     }
 
@@ -79,7 +78,7 @@ impl Row {
         let (near, far) = self.ends(entry);
         if near == self.junior {
             self.relax_entry(entry, work);
-            self.relax_list(entry.value, list_of(table, self.way, far), work);
+            self.relax_list(entry.value, self.list_of(table, far), work);
         }
     }
 
@@ -94,7 +93,7 @@ impl Row {
 
     /// Relaxes what the next round takes for the row.
     pub fn relax<M: Measure>(self, source: Source<M>, work: &mut [M])
-        ensures { (n : ℕ) → Takeable M.Measure.meaning n source.entry → Relaxed M.Measure.meaning (RowOffers M.Measure.meaning self.way self.junior source.entry) work.old work.new }
+        ensures { Relaxable source.entry → Relaxed M.Measure.meaning (RowOffers M.Measure.meaning self.way self.junior source.entry) work.old work.new }
     {
         match source {
             Source::Redraws(register) => self.relax_redraws(register, work),

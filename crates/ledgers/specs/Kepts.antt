@@ -1,9 +1,10 @@
--- What is kept true of a book has one proof at most: each part of it is an order of numbers, or an equation at a type that has a code.
+-- What is kept true of a book has one proof at most: each part of it is an order of numbers, or an equation at a type that is a set.
 use Rattle.std.specs.Prelude.{ℕ, true, List, [], ◌∷◌}
-use Rattle.std.specs.Coded.{Coded, Coded-set, coded_ℕ, coded_list, coded×, code_by, ×_prop, le_prop}
+use Rattle.std.specs.Coded.{Coded-set, coded_ℕ, coded×, code_by, ×_prop, le_prop}
 use Rattle.std.specs.List.{AllByRecursion}
 use mathlib.Core.Bool.{Bool-set}
-use mathlib.Core.Path.{refl}
+use mathlib.Core.List.{is_set}
+use mathlib.Core.Path.{refl, ap}
 use Rattle.theory.specs.declared.Redraw.{Redraw}
 use Rattle.theory.specs.declared.Entry.{Entry}
 use Rattle.theory.specs.declared.Phase.{Phase}
@@ -13,34 +14,38 @@ use Rattle.theory.specs.Books.{View, Strips, Stands, Sound}
 use Rattle.book.specs.declared.book.Book.{Book}
 use Rattle.book.specs.Views.{Kept}
 
-coded_redraw : Coded Redraw
-coded_redraw = code_by _ (coded× (coded× coded_ℕ coded_ℕ) (coded× coded_ℕ coded_ℕ))
+ℕ_set : IsSet ℕ
+ℕ_set = Coded-set coded_ℕ
+
+redraw_set : IsSet Redraw
+redraw_set = Coded-set (code_by _ (coded× (coded× coded_ℕ coded_ℕ) (coded× coded_ℕ coded_ℕ))
     (λ r. ((r.from, r.to), (r.minutes, r.grade)))
     (λ ((from, to), (minutes, grade)). record { from = from; to = to; minutes = minutes; grade = grade })
-    (λ _. refl)
+    (λ _. refl))
 
 all_prop : {X : Type 0} (P : X → Type 0) → ((x : X) → IsProp (P x)) → (xs : List X) → IsProp (AllByRecursion P xs)
 all_prop P h [] = λ p q. refl
 all_prop P h (x ∷ xs) = ×_prop (h x) (all_prop P h xs)
 
-module _ {V : Type 0} (V_coded : Coded V) where
-  coded_entry : Coded (Entry V)
-  coded_entry = code_by _ (coded× (coded× coded_ℕ coded_ℕ) V_coded)
-      (λ e. ((e.from, e.to), e.value))
-      (λ ((from, to), value). record { from = from; to = to; value = value })
-      (λ _. refl)
-
-  coded_entries : Coded (List (Entry V))
-  coded_entries = coded_list coded_entry
+module _ {V : Type 0} (V_set : IsSet V) where
+  entry_set : IsSet (Entry V)
+  entry_set x y p q = λ i j. record {
+    from = ℕ_set x.from y.from (ap (λ e. e.from) p) (ap (λ e. e.from) q) i j;
+    to = ℕ_set x.to y.to (ap (λ e. e.to) p) (ap (λ e. e.to) q) i j;
+    value = V_set x.value y.value (ap (λ e. e.value) p) (ap (λ e. e.value) q) i j;
+  }
 
   entries_set : IsSet (List (Entry V))
-  entries_set = Coded-set coded_entries
+  entries_set = is_set entry_set
 
   strips_set : IsSet (Strips V)
-  strips_set = Coded-set (code_by _ (coded× (coded_list coded_redraw) (coded× (coded× coded_entries coded_entries) (coded× (coded_list V_coded) (coded_list coded_ℕ))))
-      (λ s. (s.register, ((s.table, s.spare), (s.work, s.marks))))
-      (λ (register, ((table, spare), (work, marks))). record { register = register; table = table; spare = spare; work = work; marks = marks })
-      (λ _. refl))
+  strips_set x y p q = λ i j. record {
+    register = is_set redraw_set x.register y.register (ap (λ s. s.register) p) (ap (λ s. s.register) q) i j;
+    table = entries_set x.table y.table (ap (λ s. s.table) p) (ap (λ s. s.table) q) i j;
+    spare = entries_set x.spare y.spare (ap (λ s. s.spare) p) (ap (λ s. s.spare) q) i j;
+    work = is_set V_set x.work y.work (ap (λ s. s.work) p) (ap (λ s. s.work) q) i j;
+    marks = is_set ℕ_set x.marks y.marks (ap (λ s. s.marks) p) (ap (λ s. s.marks) q) i j;
+  }
 
   stands_prop : (m : Meaning V) (n : ℕ) (rs : List Redraw) (es : List (Entry V)) (phase : Phase) → IsProp (Stands m n rs es phase)
   stands_prop m n rs es Open = entries_set es _

@@ -1,4 +1,5 @@
 // A book of redraws under any lawful measure, with what is kept true of it.
+ghost use Rattle.std.specs.Coded.{Coded-set};
 ghost use Rattle.book.specs.Views.{Kept};
 ghost use Rattle.ledgers.specs.Kepts.{kept_prop};
 
@@ -10,7 +11,7 @@ use measures::{Chain, Measure, Minutes, Weakest};
 pub struct KeptBook<'r, 't, 's, 'w, 'm, M: Measure> {
     /// The book itself.
     pub(crate) book: Book<'r, 't, 's, 'w, 'm, M>,
-    ghost kept: { Kept M.meaning book } by { kept_prop M.code M.meaning book },
+    ghost kept: { Kept M.meaning book } by { kept_prop (Coded-set M.code) M.meaning book },
 }
 
 /// A book of redraws by minutes.

@@ -68,6 +68,10 @@ fn number_at(line: &[u8], at: usize, place: Place) -> Result<u32, LineRefusal>
 fn command_at(line: &[u8], word: FirstWord, rest: &[Place]) -> Result<Command, LineRefusal>
     ensures { result ≡ command_at line.now word rest.now }
 {
+    if rest.len() != word.numbers() {
+        return Err(LineRefusal::WordCount);
+    }
+    // The patterns name the words, whose count was asked before.
     match (word, rest) {
         (FirstWord::Open(kind), [sheets]) => Ok(Command::Open(kind, number_at(line, 1, *sheets)?)),
         (FirstWord::Redraw, [from, to, minutes, grade]) => Ok(Command::Redraw(RedrawNumbers {

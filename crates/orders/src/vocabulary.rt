@@ -55,7 +55,6 @@ impl FirstWord {
     }
 
     /// How many numbers follow the word.
-    // Public, with a promise of its own; `command_at` has the counts as the shapes of its patterns.
     pub fn numbers(self) -> usize
         ensures { result ≡ numbers_after self }
     {

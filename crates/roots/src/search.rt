@@ -54,27 +54,28 @@ fn nearer<M: Measure>(work: &[M], marks: &[u8], sheet: u16, found: Option<u16>) 
     }
 }
 
-impl<M: Measure> Search<'_, M> {
-    /// Relaxes one redraw: if it starts at the sheet, the sheet where it ends gets the longer value if that is better.
-    fn relax_one(&self, redraw: Redraw, sheet: u16, value: M, work: &mut [M])
-        ensures { work.new ≡ relaxed_one (facing self.now.way M.Measure.meaning) sheet value (facing_redraw self.now.way redraw) work.old }
-    {
-        let (start, end) = ends(self.way, redraw);
-        if start == sheet {
-            let end = end as usize;
-            let longer = extend(self.way, value, redraw);
-            if longer.better(at(work, end, longer)) {
-                put(work, end, longer);
-            }
+/// Relaxes one redraw: if it starts at the sheet, the sheet where it ends gets the longer value if that is better.
+fn relax_one<M: Measure>(way: Way, redraw: Redraw, sheet: u16, value: M, work: &mut [M])
+    ensures { work.new ≡ relaxed_one (facing way M.Measure.meaning) sheet value (facing_redraw way redraw) work.old }
+{
+    let (start, end) = ends(way, redraw);
+    if start == sheet {
+        let end = end as usize;
+        let longer = extend(way, value, redraw);
+        if longer.better(at(work, end, longer)) {
+            put(work, end, longer);
         }
     }
+}
 
+impl<M: Measure> Search<'_, M> {
     /// Relaxes every redraw that starts at the sheet.
     fn relax(&self, sheet: u16, value: M, work: &mut [M])
         ensures { work.new ≡ relaxed (facing self.now.way M.Measure.meaning) sheet value (facing_redraws self.now.way self.now.register.now) work.old }
     {
+        let way = self.way;
         for redraw in self.register {
-            self.relax_one(*redraw, sheet, value, work);
+            relax_one(way, *redraw, sheet, value, work);
         }
     }
 
