@@ -47,9 +47,8 @@ impl Row {
     fn relax_join<M: Measure>(self, value: M, entry: Entry<M>, work: &mut [M])
         ensures { work.new ≡ relaxed_join M.Measure.meaning self.way self.junior value entry work.old }
     {
-        let (_, far) = self.ends(entry);
-        if far < self.junior {
-            offer(work, far, joined(self.way, value, entry.value));
+        if self.far(entry) < self.junior {
+            offer(work, self.far(entry), joined(self.way, value, entry.value));
         }
     }
 
@@ -75,10 +74,9 @@ impl Row {
     fn relax_present<M: Measure>(self, table: &[Entry<M>], entry: Entry<M>, work: &mut [M])
         ensures { Rising key_of table.now → Relaxed M.Measure.meaning (PresentOffers M.Measure.meaning self.way self.junior table.now entry) work.old work.new }
     {
-        let (near, far) = self.ends(entry);
-        if near == self.junior {
+        if self.near(entry) == self.junior {
             self.relax_entry(entry, work);
-            self.relax_list(entry.value, self.list_of(table, far), work);
+            self.relax_list(entry.value, self.list_of(table, self.far(entry)), work);
         }
     }
 

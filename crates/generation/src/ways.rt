@@ -5,7 +5,7 @@ ghost use Rattle.tables.specs.Places.{Rising, Part};
 ghost use Rattle.tables.specs.SheetLists.{list_begin, list_end};
 ghost use Rattle.generation.specs.Offers.{near_end, far_end};
 
-use tables::{in_order, list_of};
+use tables::list_of;
 use theory::{Entry, Way};
 
 /// A row of the generated table: the entries of one way between a junior sheet and the sheets senior to it.
@@ -19,7 +19,7 @@ pub struct Row {
 
 impl Row {
     /// The end of an entry at which the row looks for its junior sheet.
-    // A match of its own, and so is `far`: where a pair is made of both ends, every redraw that the row passes costs nearly twice as much.
+    // A match of its own, and so is `far`, where roots has one pair for both ends of a redraw: with a pair every redraw that the row passes costs nearly twice as much.
     pub fn near<M: Copy>(self, entry: Entry<M>) -> u16
         ensures { result ≡ near_end self.way entry }
     {
@@ -45,14 +45,5 @@ impl Row {
         ensures { Rising key_of table.now → Part table.now (list_begin self.way sheet) (list_end self.way sheet) result.now }
     {
         list_of(table, self.way, sheet)
-    }
-
-    // As `ends` of roots has it for a redraw: one line each, shorter than a trait for both.
-    /// The ends of an entry: the one at which the row looks for its junior sheet, and the one to which the entry leads it.
-    pub fn ends<M: Copy>(self, entry: Entry<M>) -> (u16, u16)
-        ensures near { result.0 ≡ near_end self.way entry }
-        ensures far { result.1 ≡ far_end self.way entry }
-    {
-        in_order(self.way, entry.from, entry.to)
     }
 }

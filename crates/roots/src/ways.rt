@@ -8,7 +8,7 @@ use measures::Measure;
 use tables::{answer, in_order, joined};
 use theory::{Entry, Redraw, Way};
 
-// As `ends` of generation has it for an entry: one line each, shorter than a trait for both.
+// `near` and `far` of generation have it for an entry; a trait for both would be longer.
 /// The ends of a redraw: the one that a search reaches first, and the one to which the redraw leads it.
 pub fn ends(way: Way, redraw: Redraw) -> (u16, u16)
     ensures near { result.0 ≡ (facing_redraw way redraw).from }
